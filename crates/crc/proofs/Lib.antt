@@ -1,0 +1,6 @@
+pub mod ByTable
+pub mod Cases
+pub mod Loop
+pub mod SingleBit
+pub mod Table
+pub mod Xor

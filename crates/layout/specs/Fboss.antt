@@ -1,0 +1,99 @@
+-- FBOSS v5 (01, "FBOSS v5 (000)").
+-- Assumes nothing.
+use Prim.Native.Nat.{ℕ, zero, suc, _+_, _*_, _-_, _/_, _%_}
+use mathlib.Core.List.{List, [], _∷_}
+use mathlib.Core.Bool.{Bool, true, false, _&&_}
+use lib.ListN.{length, getD}
+use lib.Dec.{ltb, leb, eqb}
+use Rattle.crc.specs.Crc.{check16Of}
+use Rattle.layout.specs.declared.Headed.{Headed}
+use Rattle.layout.specs.declared.Headed.the-variants.{Opens, Ends, Wrong}
+use Rattle.layout.specs.declared.Opened.{Opened}
+use Rattle.layout.specs.declared.Opened.the-variants.{Room, Closed}
+use Rattle.layout.specs.declared.Reading.{Reading}
+use Rattle.layout.specs.declared.Reading.the-variants.{Plain, Text, Number, Addresses}
+use Rattle.layout.specs.Bytes.{if, between, all, oneOf, highFirst, refusal, part}
+use Rattle.layout.specs.Shape.{Shape, naming, byteLength, bareHead}
+
+-- FB FB 05 FF; the entries have room to the image's end
+unfoldable pub fbossOpened : List ℕ → Opened
+fbossOpened s =
+    if (ltb (length s) 4) (λ _. Closed (refusal 3 0))
+    (λ _. if (eqb (getD s 0 0) 0xFB && eqb (getD s 1 0) 0xFB)
+    (λ _. if (eqb (getD s 2 0) 0x05)
+    (λ _. if (eqb (getD s 3 0) 0xFF) (λ _. Room 4 (length s)) (λ _. Closed (refusal 3 0)))
+    (λ _. Closed (refusal 4 0)))
+    (λ _. Closed (refusal 3 0)))
+
+-- code 250 with length 2 ends the image, and its value is the check; 0 and 255 are no codes
+unfoldable pub fbossHead : List ℕ → Headed
+fbossHead s =
+    if (ltb 0 (length s))
+    (λ _. if (eqb (getD s 0 0) 0) (λ _. Wrong 6)
+    (λ _. if (eqb (getD s 0 0) 255) (λ _. Wrong 6)
+    (λ _. if (eqb (getD s 0 0) 250)
+    (λ _. if (ltb 1 (length s))
+    (λ _. if (eqb (getD s 1 0) 2) (λ _. if (ltb 3 (length s)) (λ _. Ends) (λ _. Wrong 5)) (λ _. Wrong 6))
+    (λ _. Wrong 5))
+    (λ _. Opens (bareHead (getD s 0 0))))))
+    (λ _. Wrong 5)
+
+-- a byte of text
+abbrev pub printable : ℕ → Bool
+printable b = between 0x20 0x7E b
+
+abbrev pub digit : ℕ → Bool
+digit b = between 0x30 0x39 b
+
+-- the number that two digits at place i show
+abbrev pub twoDigits : ℕ → List ℕ → ℕ
+twoDigits i v = (getD v i 0 - 0x30) * 10 + (getD v (i + 1) 0 - 0x30)
+
+-- eight digits YYYYMMDD, month 01 to 12, day 01 to 31
+unfoldable pub dateRule : List ℕ → Bool
+dateRule v = eqb (length v) 8 && all digit v && between 1 12 (twoDigits 4 v) && between 1 31 (twoDigits 6 v)
+
+unfoldable pub fbossRule : ℕ → List ℕ → Bool
+fbossRule c v =
+    if (oneOf (1 ∷ 2 ∷ 6 ∷ 7 ∷ 11 ∷ 12 ∷ 14 ∷ 15 ∷ 16 ∷ []) c) (λ _. all printable v)
+    (λ _. if (eqb c 3) (λ _. eqb (length v) 8 && all printable v)
+    (λ _. if (between 4 5 c) (λ _. eqb (length v) 12 && all printable v)
+    (λ _. if (eqb c 13) (λ _. dateRule v)
+    (λ _. if (between 8 10 c) (λ _. eqb (length v) 1)
+    (λ _. if (between 17 20 c) (λ _. eqb (length v) 8)
+    (λ _. true))))))
+
+unfoldable pub fbossReading : ℕ → List ℕ → Reading
+fbossReading c v =
+    if (between 8 10 c) (λ _. Number (getD v 0 0))
+    (λ _. if (between 17 20 c) (λ _. Addresses (highFirst 0 (part 0 6 v)) (highFirst 0 (part 6 2 v)))
+    (λ _. Text))
+
+-- the check's two bytes, high byte first
+abbrev pub fbossCheck : List ℕ → List ℕ
+fbossCheck s = (check16Of s / 256) ∷ (check16Of s % 256) ∷ []
+
+unfoldable pub fboss : Shape
+fboss =
+    record {
+      number = 1;
+      keyed = false;
+      opened = fbossOpened;
+      head = λ b s. fbossHead s;
+      vlen = byteLength;
+      last = λ c. false;
+      closing = 250 ∷ 2 ∷ [];
+      check = fbossCheck;
+      header = λ n. 0xFB ∷ 0xFB ∷ 0x05 ∷ 0xFF ∷ [];
+      opening = λ c key. c ∷ [];
+      lens = λ c n. n ∷ [];
+      most = 65536;
+      namings = naming 1 1 16 ∷ naming 2 17 20 ∷ [];
+      readerKey = λ c key. true;
+      writerKey = λ c key. true;
+      valueRule = fbossRule;
+      lengthRule = λ c n. ltb n 256;
+      reading = fbossReading;
+      twice = λ a b. true;
+      required = 1 ∷ 8 ∷ 9 ∷ 10 ∷ 11 ∷ [];
+    }

@@ -1,0 +1,11 @@
+pub mod Bytes
+pub mod Shape
+pub mod Fboss
+pub mod Vpd
+pub mod Tiny
+pub mod Editions
+pub mod Walk
+pub mod Read
+pub mod Calls
+pub mod Write
+pub mod Edit

@@ -1,0 +1,97 @@
+-- What a format is, and the frame of one entry, for any format.
+-- Assumes nothing.
+use Prim.Native.Nat.{ℕ, zero, suc, _+_}
+use mathlib.Core.List.{List, [], _∷_}
+use mathlib.Core.Bool.{Bool, true, false}
+use lib.ListN.{length, getD}
+use lib.Dec.{ltb, leb}
+use Rattle.layout.specs.declared.Head.{Head}
+use Rattle.layout.specs.declared.Headed.{Headed}
+use Rattle.layout.specs.declared.Headed.the-variants.{Opens, Ends, Wrong}
+use Rattle.layout.specs.declared.Length.{Length}
+use Rattle.layout.specs.declared.Length.the-variants.{Reads, Fails}
+use Rattle.layout.specs.declared.Frame.{Frame}
+use Rattle.layout.specs.declared.Next.{Next}
+use Rattle.layout.specs.declared.Next.the-variants.{Framed, Ended, Broken}
+use Rattle.layout.specs.declared.Opened.{Opened}
+use Rattle.layout.specs.declared.Reading.{Reading}
+use Rattle.layout.specs.Bytes.{if}
+
+-- a line of 01's "Editions and kinds": the edition from which on the codes from first to last are named
+pub record Naming : Type 0 where
+  pub edition : ℕ
+  pub first : ℕ
+  pub last : ℕ
+
+abbrev pub naming : ℕ → ℕ → ℕ → Naming
+naming e a b = record { edition = e; first = a; last = b }
+
+-- what tells entries apart: the code and the key, and never the value
+pub record Label : Type 0 where
+  pub code : ℕ
+  pub key : List ℕ
+
+pub record Shape : Type 0 where
+  -- the format's number in 01
+  pub number : ℕ
+  -- does an entry have a key
+  pub keyed : Bool
+  -- the header of an image: where its entries are
+  pub opened : List ℕ → Opened
+  -- what opens an entry at the front of the room that is left. The test says whether the entry before was one that none may follow
+  pub head : Bool → List ℕ → Headed
+  -- the length of a value, after its head
+  pub vlen : Head → List ℕ → Length
+  -- may no entry follow one of this code
+  pub last : ℕ → Bool
+  -- the bytes between the last entry and the check, as they are written
+  pub closing : List ℕ
+  -- the bytes of the check over all that stands before the closing
+  pub check : List ℕ → List ℕ
+  -- the header of an image whose entries have so many bytes in all
+  pub header : ℕ → List ℕ
+  -- what a new entry of this code and key opens with
+  pub opening : ℕ → List ℕ → List ℕ
+  -- the bytes that say the length of a value of this code
+  pub lens : ℕ → ℕ → List ℕ
+  -- the most bytes that an image may have
+  pub most : ℕ
+  -- the codes that editions name
+  pub namings : List Naming
+  -- a named entry's rule on its key, as the reader and as the writer have it
+  pub readerKey : ℕ → List ℕ → Bool
+  pub writerKey : ℕ → List ℕ → Bool
+  -- a named entry's rule on its value, and on the length of a value that is written
+  pub valueRule : ℕ → List ℕ → Bool
+  pub lengthRule : ℕ → ℕ → Bool
+  -- the reading of a named entry's value
+  pub reading : ℕ → List ℕ → Reading
+  -- do two entries of the same named code come twice
+  pub twice : Label → Label → Bool
+  -- the codes that an image must have
+  pub required : List ℕ
+
+-- the frame of an entry whose value has the length v and stands at j, both from the entry's first byte on
+abbrev pub frameOf : Head → ℕ → ℕ → Frame
+frameOf h v j = record { code = h .code; key = h .key; klen = h .klen; at = h .at; val = j; vlen = v; size = j + v }
+
+abbrev pub onLength : Length → Head → List ℕ → Next
+onLength (Reads v j) h s = if (leb (j + v) (length s)) (λ _. Framed (frameOf h v j)) (λ _. Broken 5)
+onLength (Fails n) h s = Broken n
+
+abbrev pub onHead : Headed → Shape → List ℕ → Next
+onHead (Opens h) S s = onLength (S .vlen h s) h s
+onHead Ends S s = Ended
+onHead (Wrong n) S s = Broken n
+
+-- the next entry's frame at the front of s, in 01's order: what opens it, its length bytes, and only then a value past the room (01, "Order")
+unfoldable pub next : Shape → Bool → List ℕ → Next
+next S b s = onHead (S .head b s) S s
+
+-- a length of one byte, at the place where the head says that it begins
+abbrev pub byteLength : Head → List ℕ → Length
+byteLength h s = if (ltb (h .at) (length s)) (λ _. Reads (getD s (h .at) 0) (h .at + 1)) (λ _. Fails 5)
+
+-- the head of an entry without a key, which is a code byte alone
+abbrev pub bareHead : ℕ → Head
+bareHead c = record { code = c; key = 1; klen = 0; at = 1 }

@@ -1,0 +1,279 @@
+//! What the editions name, the rules of named entries and their readings.
+
+use crate::formats::{Edition, Format, POOL, VPD_INFO, VPD_STRING};
+use crate::{Identity, Reading};
+
+/// Whether an edition names a code.
+pub(crate) fn is_named(format: Format, edition: Edition, code: u8) -> bool {
+    let since_edition_one = match format {
+        Format::Fboss => matches!(code, 1..=16),
+        Format::Vpd => code == VPD_STRING,
+        Format::Tiny => matches!(code, 0x01 | 0x10 | 0x11 | 0x60 | 0x61 | 0x62),
+    };
+    let since_edition_two = match format {
+        Format::Fboss => matches!(code, 17..=20),
+        Format::Vpd => code == VPD_INFO,
+        Format::Tiny => matches!(code, 0x80 | 0x81),
+    };
+    match edition {
+        Edition::One => since_edition_one,
+        Edition::Two => since_edition_one || since_edition_two,
+    }
+}
+
+/// The kind of an entry that an edition names.
+pub(crate) fn kind(format: Format, code: u8) -> u32 {
+    format.number() * 256 + u32::from(code)
+}
+
+/// The codes that an image must have, in every edition.
+pub(crate) fn required(format: Format) -> &'static [u8] {
+    match format {
+        Format::Fboss => &[1, 8, 9, 10, 11],
+        Format::Vpd | Format::Tiny => &[],
+    }
+}
+
+/// Whether a named entry keeps the rule of its code.
+///
+/// Values to be written come here too, so the rule also says how long a value may be.
+pub(crate) fn keeps_rule(format: Format, code: u8, key: &[u8], value: &[u8]) -> bool {
+    match (format, code) {
+        (Format::Fboss, 3) => value.len() == 8 && is_text(value),
+        (Format::Fboss, 4 | 5) => value.len() == 12 && is_text(value),
+        (Format::Fboss, 8..=10) => value.len() == 1,
+        (Format::Fboss, 13) => is_date(value),
+        (Format::Fboss, 17..=20) => value.len() == 8,
+        (Format::Fboss, _) => value.len() <= 255 && is_text(value),
+
+        (Format::Vpd, VPD_INFO) => value.len() == 4,
+        (Format::Vpd, _) => !key.is_empty() && key.iter().all(|&byte| is_key_byte(byte)),
+
+        (Format::Tiny, POOL) => value.len() <= 255,
+        (Format::Tiny, 0x61 | 0x62) => match *value {
+            [_, _, major, minor, _, _] => is_revision(major, minor),
+            _ => false,
+        },
+        (Format::Tiny, 0x80 | 0x81) => match *value {
+            [_, _, major, minor, _, _, low, high] => {
+                is_revision(major, minor) && u16::from_le_bytes([low, high]) <= 9999
+            }
+            _ => false,
+        },
+        (Format::Tiny, _) => value.len() == usize::from(code >> 4),
+    }
+}
+
+fn is_text(value: &[u8]) -> bool {
+    value.iter().all(|byte| matches!(byte, 0x20..=0x7E))
+}
+
+fn is_key_byte(byte: u8) -> bool {
+    byte.is_ascii_alphanumeric() || byte == b'_'
+}
+
+/// Eight digits YYYYMMDD, with a month from 01 to 12 and a day from 01 to 31.
+fn is_date(value: &[u8]) -> bool {
+    let two_digits = |tens: u8, ones: u8| (tens - b'0') * 10 + (ones - b'0');
+    match *value {
+        [_, _, _, _, m0, m1, d0, d1] if value.iter().all(u8::is_ascii_digit) => {
+            (1..=12).contains(&two_digits(m0, m1)) && (1..=31).contains(&two_digits(d0, d1))
+        }
+        _ => false,
+    }
+}
+
+/// The major part is 00 to 99, or 0A to 0Z with the top bit on. The minor part is 00 to 99.
+fn is_revision(major: u8, minor: u8) -> bool {
+    matches!(major, 0..=99 | 128..=153) && minor <= 99
+}
+
+/// What the value of a named entry means. The value keeps its rule.
+pub(crate) fn reading(format: Format, code: u8, value: &[u8]) -> Reading {
+    match (format, code, value) {
+        (Format::Fboss, 8..=10, &[number]) => Reading::Number(u32::from(number)),
+        (Format::Fboss, 17..=20, &[b0, b1, b2, b3, b4, b5, c0, c1]) => Reading::Addresses {
+            base: address([b0, b1, b2, b3, b4, b5]),
+            count: u32::from(u16::from_be_bytes([c0, c1])),
+        },
+        (Format::Fboss, _, _) => Reading::Text,
+
+        (Format::Vpd, _, _) => Reading::Plain,
+
+        (Format::Tiny, 0x10, &[number]) => Reading::StringNumber(u32::from(number)),
+        (Format::Tiny, 0x11, &[byte]) => Reading::TestFlags {
+            byte,
+            passed: (0..4).map(|bit| byte >> bit & 1).sum(),
+        },
+        (Format::Tiny, 0x60, &[b0, b1, b2, b3, b4, b5]) => Reading::Addresses {
+            base: address([b0, b1, b2, b3, b4, b5]),
+            count: 1,
+        },
+        (Format::Tiny, 0x61 | 0x62, &[serial, part, major, minor, free0, free1]) => {
+            Reading::Identity(Identity {
+                serial,
+                part,
+                major,
+                minor,
+                free0,
+                free1,
+            })
+        }
+        (Format::Tiny, 0x80 | 0x81, &[serial, part, major, minor, free0, free1, low, high]) => {
+            let identity = Identity {
+                serial,
+                part,
+                major,
+                minor,
+                free0,
+                free1,
+            };
+            Reading::IdentityWithBatch(identity, u32::from(u16::from_le_bytes([low, high])))
+        }
+        (Format::Tiny, _, _) => Reading::Plain,
+    }
+}
+
+/// A 48-bit address, high byte first.
+fn address(bytes: [u8; 6]) -> u64 {
+    bytes
+        .iter()
+        .fold(0, |base, &byte| base << 8 | u64::from(byte))
+}
+
+#[cfg(test)]
+mod tests {
+    use super::*;
+
+    #[test]
+    fn the_editions_name_these_and_no_others() {
+        let named = |format, edition| -> Vec<u8> {
+            (0..=255)
+                .filter(|&code| is_named(format, edition, code))
+                .collect()
+        };
+        assert_eq!(
+            named(Format::Fboss, Edition::One),
+            (1..=16).collect::<Vec<u8>>()
+        );
+        assert_eq!(
+            named(Format::Fboss, Edition::Two),
+            (1..=20).collect::<Vec<u8>>()
+        );
+        assert_eq!(named(Format::Vpd, Edition::One), [0x01]);
+        assert_eq!(named(Format::Vpd, Edition::Two), [0x01, 0xFE]);
+        assert_eq!(
+            named(Format::Tiny, Edition::One),
+            [0x01, 0x10, 0x11, 0x60, 0x61, 0x62]
+        );
+        assert_eq!(
+            named(Format::Tiny, Edition::Two),
+            [0x01, 0x10, 0x11, 0x60, 0x61, 0x62, 0x80, 0x81]
+        );
+    }
+
+    #[test]
+    fn fboss_rules() {
+        let keeps = |code, value: &[u8]| keeps_rule(Format::Fboss, code, b"", value);
+        for code in [1, 2, 6, 7, 11, 12, 14, 15, 16] {
+            assert!(keeps(code, b""));
+            assert!(keeps(code, b" ~"));
+            assert!(keeps(code, &[b'x'; 255]));
+            assert!(!keeps(code, &[b'x'; 256]));
+            assert!(!keeps(code, &[0x1F]));
+            assert!(!keeps(code, &[0x7F]));
+        }
+        for (code, length) in [(3, 8), (4, 12), (5, 12)] {
+            for other in 0..20 {
+                assert_eq!(keeps(code, &vec![b'x'; other]), other == length);
+            }
+            assert!(!keeps(code, &vec![0x80; length]));
+        }
+        for code in 8..=10 {
+            assert!(!keeps(code, &[]));
+            assert!(keeps(code, &[255]));
+            assert!(!keeps(code, &[0, 0]));
+        }
+        for code in 17..=20 {
+            assert!(!keeps(code, &[0; 7]));
+            assert!(keeps(code, &[255; 8]));
+            assert!(!keeps(code, &[0; 9]));
+        }
+    }
+
+    #[test]
+    fn dates() {
+        for good in [b"20130203", b"00000101", b"99991231", b"20230231"] {
+            assert!(is_date(good));
+        }
+        for bad in [
+            &b"2013020"[..],
+            b"201302030",
+            b"20130003",
+            b"20131303",
+            b"20130200",
+            b"20130232",
+            b"2013 203",
+            b"/0130203",
+            b"2013020:",
+            b"",
+        ] {
+            assert!(!is_date(bad));
+        }
+    }
+
+    #[test]
+    fn vpd_rules() {
+        let keeps = |code, key: &[u8], value: &[u8]| keeps_rule(Format::Vpd, code, key, value);
+        assert!(keeps(VPD_STRING, b"azAZ09_", b""));
+        assert!(!keeps(VPD_STRING, b"", b""));
+        for byte in 0..=255u8 {
+            let good = b"abcdefghijklmnopqrstuvwxyzABCDEFGHIJKLMNOPQRSTUVWXYZ0123456789_";
+            assert_eq!(keeps(VPD_STRING, &[byte], b"x"), good.contains(&byte));
+            assert!(keeps(VPD_INFO, &[byte], b"1234"));
+        }
+        assert!(keeps(VPD_INFO, b"", b"1234"));
+        assert!(!keeps(VPD_INFO, b"gVpdInfo", b"123"));
+        assert!(!keeps(VPD_INFO, b"gVpdInfo", b"12345"));
+    }
+
+    #[test]
+    fn tiny_rules() {
+        let keeps = |code, value: &[u8]| keeps_rule(Format::Tiny, code, b"", value);
+        assert!(keeps(POOL, &[0; 255]));
+        assert!(!keeps(POOL, &[0; 256]));
+        for (code, length) in [
+            (0x10, 1),
+            (0x11, 1),
+            (0x60, 6),
+            (0x61, 6),
+            (0x62, 6),
+            (0x80, 8),
+            (0x81, 8),
+        ] {
+            for other in 0..20 {
+                assert_eq!(keeps(code, &vec![0; other]), other == length);
+            }
+        }
+        for major in 0..=255 {
+            let good = major <= 99 || (128..=153).contains(&major);
+            assert_eq!(keeps(0x61, &[255, 255, major, 99, 255, 255]), good);
+            assert_eq!(keeps(0x81, &[255, 255, major, 99, 255, 255, 0, 0]), good);
+        }
+        assert!(!keeps(0x62, &[0, 0, 0, 100, 0, 0]));
+        assert!(!keeps(0x80, &[0, 0, 0, 100, 0, 0, 0, 0]));
+        assert!(keeps(0x80, &[0, 0, 0, 0, 0, 0, 0x0F, 0x27]));
+        assert!(!keeps(0x80, &[0, 0, 0, 0, 0, 0, 0x10, 0x27]));
+    }
+
+    #[test]
+    fn test_flags_count_the_low_four_bits() {
+        for byte in 0..=255u8 {
+            let passed = (byte & 0x0F).count_ones() as u8;
+            assert_eq!(
+                reading(Format::Tiny, 0x11, &[byte]),
+                Reading::TestFlags { byte, passed }
+            );
+        }
+    }
+}

@@ -1,0 +1,209 @@
+//! Making images: from a field list, or by editing one value of an accepted image.
+
+use std::borrow::Cow;
+
+use crate::accept::{accept, Present};
+use crate::checks::{check16, check8};
+use crate::formats::{
+    not_too_long, Edition, Format, FBOSS_END, FBOSS_END_LENGTH, FBOSS_HEADER, POOL, TINY_MAGIC,
+    TINY_VERSION, VPD_END,
+};
+use crate::names;
+use crate::refusal::{Reason, Refusal};
+use crate::Field;
+
+/// Writes an image from a list of fields, whose parts lie in `values`, and gives its length, its
+/// end included.
+///
+/// Every output byte after the image's end becomes FFh.
+pub fn write(
+    format: u32,
+    edition: u32,
+    fields: &[Field],
+    values: &[u8],
+    out: &mut [u8],
+) -> Result<usize, Refusal> {
+    let format = Format::from_number(format)?;
+    let edition = Edition::from_number(edition)?;
+    not_too_long(out)?;
+
+    let mut present = Present::default();
+    let mut pool_seen = false;
+    let mut body = Vec::new();
+    for (number, field) in fields.iter().enumerate() {
+        let code = u8::try_from(field.code)
+            .ok()
+            .filter(|&code| names::is_named(format, edition, code))
+            .ok_or(Reason::NotNamed.at(number))?;
+        let not_inside = Reason::NoEntry.at(number);
+        let key = match format {
+            Format::Vpd => part(values, field.key_place, field.key_len).ok_or(not_inside)?,
+            Format::Fboss | Format::Tiny => &[],
+        };
+        let value = part(values, field.value_place, field.value_len).ok_or(not_inside)?;
+        if pool_seen {
+            return Err(Reason::AfterPool.at(number));
+        }
+        if !names::keeps_rule(format, code, key, value) {
+            return Err(Reason::Rule.at(number));
+        }
+        if !present.add(format, code, key) {
+            return Err(Reason::Twice.at(number));
+        }
+        pool_seen = format == Format::Tiny && code == POOL;
+
+        body.push(Cow::from(vec![code]));
+        if format == Format::Vpd {
+            body.push(Cow::from(vpd_length(key.len())));
+            body.push(Cow::from(key));
+        }
+        body.push(Cow::from(value_length(format, code, value)));
+        body.push(Cow::from(value));
+    }
+    present.has_all_required(format)?;
+
+    deliver(format, &body, out)
+}
+
+/// Edits the value of entry `n` of an image into a second buffer and gives the new image's length,
+/// its end included.
+///
+/// All other entries keep their bytes, and so does what comes before the edited value's length.
+/// Every output byte after the new image's end becomes FFh.
+pub fn edit(
+    format: u32,
+    edition: u32,
+    image: &[u8],
+    n: u64,
+    value: &[u8],
+    out: &mut [u8],
+) -> Result<usize, Refusal> {
+    Format::from_number(format)?;
+    Edition::from_number(edition)?;
+    not_too_long(out)?;
+    let accepted = accept(format, edition, image)?;
+    let format = accepted.format;
+
+    let frame = usize::try_from(n)
+        .ok()
+        .and_then(|n| accepted.frames().get(n))
+        .ok_or(Reason::NoEntry.at(0))?;
+    if !names::is_named(format, accepted.edition, frame.code) {
+        return Err(Reason::NotNamed.at(frame.place));
+    }
+    let key = &image[frame.key.clone()];
+    if !names::keeps_rule(format, frame.code, key, value) {
+        return Err(Reason::Rule.at(frame.place));
+    }
+
+    // The length of a value comes right after the key, or after the code where there is no key.
+    let length_place = match format {
+        Format::Vpd => frame.key.end,
+        Format::Fboss | Format::Tiny => frame.place + 1,
+    };
+    let body = [
+        Cow::from(&image[format.header_len()..length_place]),
+        Cow::from(value_length(format, frame.code, value)),
+        Cow::from(value),
+        Cow::from(&image[frame.value.end..accepted.end()]),
+    ];
+    deliver(format, &body, out)
+}
+
+/// A part of the lent values, or nothing where it is not inside them.
+fn part(values: &[u8], place: u64, length: u64) -> Option<&[u8]> {
+    let start = usize::try_from(place).ok()?;
+    let end = start.checked_add(usize::try_from(length).ok()?)?;
+    values.get(start..end)
+}
+
+/// The bytes that give the length of a value, in shortest form. The value keeps its rule.
+fn value_length(format: Format, code: u8, value: &[u8]) -> Vec<u8> {
+    match format {
+        // The rules allow no value above 255 bytes.
+        Format::Fboss => vec![value.len() as u8],
+        Format::Vpd => vpd_length(value.len()),
+        Format::Tiny if code >> 4 == 0 => vec![value.len() as u8],
+        // The tag itself gives the length.
+        Format::Tiny => Vec::new(),
+    }
+}
+
+/// A VPD length in shortest form: groups of seven bits, the highest first, the top bit on in all
+/// but the last.
+fn vpd_length(length: usize) -> Vec<u8> {
+    let mut bytes = vec![(length & 0x7F) as u8];
+    let mut rest = length >> 7;
+    while rest > 0 {
+        bytes.push((rest & 0x7F) as u8 | 0x80);
+        rest >>= 7;
+    }
+    bytes.reverse();
+    bytes
+}
+
+/// Puts header, entries and end into the output, and FFh after them, where there is room for the
+/// image.
+///
+/// The body is the bytes of all entries, in pieces. Its length is known before anything is put
+/// together, because fields may share large parts of the values.
+fn deliver(format: Format, body: &[Cow<[u8]>], out: &mut [u8]) -> Result<usize, Refusal> {
+    let length = body.iter().map(|piece| piece.len()).fold(
+        format.header_len() + format.end_len(),
+        usize::saturating_add,
+    );
+    let tiny_length = match format {
+        Format::Tiny => u8::try_from(length).map_err(|_| Reason::NoRoom.at(0))?,
+        Format::Fboss | Format::Vpd => 0,
+    };
+    if length > out.len() {
+        return Err(Reason::NoRoom.at(0));
+    }
+
+    let mut image = match format {
+        Format::Fboss => FBOSS_HEADER.to_vec(),
+        Format::Vpd => Vec::new(),
+        Format::Tiny => vec![TINY_MAGIC, TINY_VERSION, tiny_length],
+    };
+    image.extend(body.iter().flat_map(|piece| piece.iter()));
+    match format {
+        Format::Fboss => {
+            let check = check16(&image);
+            image.extend([FBOSS_END, FBOSS_END_LENGTH]);
+            image.extend(check.to_be_bytes());
+        }
+        Format::Vpd => image.push(VPD_END),
+        Format::Tiny => image.push(check8(&image)),
+    }
+
+    let (made, after) = out.split_at_mut(length);
+    made.copy_from_slice(&image);
+    after.fill(0xFF);
+    Ok(length)
+}
+
+#[cfg(test)]
+mod tests {
+    use super::*;
+
+    #[test]
+    fn shortest_vpd_lengths() {
+        assert_eq!(vpd_length(0), [0x00]);
+        assert_eq!(vpd_length(127), [0x7F]);
+        assert_eq!(vpd_length(128), [0x81, 0x00]);
+        assert_eq!(vpd_length(16_383), [0xFF, 0x7F]);
+        assert_eq!(vpd_length(16_384), [0x81, 0x80, 0x00]);
+        assert_eq!(vpd_length(65_793), [0x84, 0x82, 0x01]);
+    }
+
+    #[test]
+    fn parts_of_the_values() {
+        assert_eq!(part(b"abc", 0, 3), Some(&b"abc"[..]));
+        assert_eq!(part(b"abc", 3, 0), Some(&b""[..]));
+        assert_eq!(part(b"abc", 4, 0), None);
+        assert_eq!(part(b"abc", 2, 2), None);
+        assert_eq!(part(b"abc", u64::MAX, 1), None);
+        assert_eq!(part(b"abc", 1, u64::MAX), None);
+        assert_eq!(part(b"abc", u64::MAX, u64::MAX), None);
+    }
+}
