@@ -27,7 +27,7 @@ use Rattle.layout.specs.Vpd.{vpd, groups, vpdHead, shortest, vpdReaderKe
 use Rattle.layout.specs.Tiny.{tiny, tinyOpened, tinyHead, tinyLength, tinyRule, tinyReading}
 use Rattle.layout.specs.Editions.{chosen, sinceIn, names, kind}
 use Rattle.layout.specs.Walk.{Raw, Content, content, walks, walk}
-use Rattle.layout.specs.Read.{sealed, seenBefore, readerRule, fault, judge, has, complete, Read, accepted, refused, readAs, readImage}
+use Rattle.layout.specs.Read.{sealed, seenBefore, readerRule, fault, judge, complete, Read, accepted, refused, readAs, readImage}
 use Rattle.layout.specs.Calls.{Listed, entryOf, entriesOf, checkImage, listEntries, nth, entryAt, bytesAt, valueAt, stepWalk, stringIn, poolString, stringAt}
 use Rattle.layout.specs.Write.{writerRule, fieldFault, judgeFields, entryBytes, entriesBytes, imageOf, put, writeAs, writeImage, Outcome}
 use Rattle.layout.specs.Edit.{revalued, editedBytes, editRule, mayEdit, editEntry}
@@ -38,6 +38,8 @@ pub data Case : Type 0 where
   check16 check8 : (s : List ℕ) (answer : ℕ) → Case
   -- a VPD length and the place after it
   lengths : (s : List ℕ) (answer : Length) → Case
+  -- the shortest bytes that say a VPD length
+  shortests : (n : ℕ) (answer : List ℕ) → Case
   -- the check of an image
   checks : (format edition : ℕ) (image : List ℕ) (answer : Checked) → Case
   -- the list, with room for just these records
@@ -87,6 +89,7 @@ abbrev pub given : Case → Answer
 given (check16 s answer) = number (check16Of s)
 given (check8 s answer) = number (check8Of s)
 given (lengths s answer) = length-read (groups 4 0 0 s)
+given (shortests n answer) = bytes (shortest n)
 given (checks f e image answer) = checked (checkImage f e image)
 given (lists f e image records) = listed (listEntries f e image (replicate (length records) blank))
 given (refusesList f e image answer) = listed (listEntries f e image [])
@@ -103,6 +106,7 @@ abbrev pub wanted : Case → Answer
 wanted (check16 s answer) = number answer
 wanted (check8 s answer) = number answer
 wanted (lengths s answer) = length-read answer
+wanted (shortests n answer) = bytes answer
 wanted (checks f e image answer) = checked answer
 wanted (lists f e image records) = listed (record { answer = Accepted (length records); records = records })
 wanted (refusesList f e image answer) = listed (record { answer = answer; records = [] })
@@ -152,6 +156,13 @@ cases =
     ∷ checks 3 1 (0x56 ∷ 0x02 ∷ 0x04 ∷ 0x6E ∷ []) (refuses 10 3)
     ∷ checks 3 1 (0x56 ∷ 0x02 ∷ 0x03 ∷ []) (refuses 5 2)
     -- ---- beyond those of 01: every number of the table that a reader gives, with its place
+    -- the shortest length bytes on both sides of each number of bytes
+    ∷ shortests 127 (0x7F ∷ [])
+    ∷ shortests 128 (0x81 ∷ 0x00 ∷ [])
+    ∷ shortests 16383 (0xFF ∷ 0x7F ∷ [])
+    ∷ shortests 16384 (0x81 ∷ 0x80 ∷ 0x00 ∷ [])
+    ∷ shortests 65793 (0x84 ∷ 0x82 ∷ 0x01 ∷ [])
+    ∷ shortests 2097152 (0x81 ∷ 0x80 ∷ 0x80 ∷ 0x00 ∷ [])
     -- 1 and 16: the format before the edition, both at full width
     ∷ checks 3 0 (0x56 ∷ 0x02 ∷ 0x04 ∷ 0x6F ∷ []) (refuses 1 0)
     ∷ checks 3 3 (0x56 ∷ 0x02 ∷ 0x04 ∷ 0x6F ∷ []) (refuses 1 0)
@@ -336,5 +347,5 @@ cases =
     ∷ []
 
 pub every-case : map given cases ≡ map wanted cases
-unfolding check16Of check8Of checkOf byteIn singleBit all oneOf sameBytes part highFirst next fboss fbossOpened fbossHead dateRule fbossRule fbossReading vpd groups vpdHead shortest vpdReaderKey vpdWriterKey vpdRule vpdTwice tiny tinyOpened tinyHead tinyLength tinyRule tinyReading chosen sinceIn names kind content walks walk sealed seenBefore readerRule fault judge has complete readAs readImage entryOf entriesOf checkImage listEntries nth entryAt valueAt stepWalk stringIn poolString stringAt writerRule fieldFault judgeFields entryBytes entriesBytes imageOf put writeAs writeImage revalued editedBytes editRule mayEdit editEntry
+unfolding check16Of check8Of checkOf byteIn singleBit all oneOf sameBytes part highFirst next fboss fbossOpened fbossHead dateRule fbossRule fbossReading vpd groups vpdHead shortest vpdReaderKey vpdWriterKey vpdRule vpdTwice tiny tinyOpened tinyHead tinyLength tinyRule tinyReading chosen sinceIn names kind content walks walk sealed seenBefore readerRule fault judge complete readAs readImage entryOf entriesOf checkImage listEntries nth entryAt valueAt stepWalk stringIn poolString stringAt writerRule fieldFault judgeFields entryBytes entriesBytes imageOf put writeAs writeImage revalued editedBytes editRule mayEdit editEntry
 every-case = refl

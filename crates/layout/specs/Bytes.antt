@@ -3,7 +3,7 @@
 use Prim.Native.Nat.{ℕ, zero, suc, _+_, _*_}
 use mathlib.Core.List.{List, [], _∷_}
 use mathlib.Core.Bool.{Bool, true, false, _&&_}
-use lib.ListN.{length, take, drop}
+use lib.ListN.{take, drop}
 use lib.Dec.{leb, eqb}
 use Rattle.layout.specs.declared.Place.{Place}
 use Rattle.layout.specs.declared.StringNumber.{StringNumber}
@@ -24,10 +24,10 @@ unfoldable pub all : (ℕ → Bool) → List ℕ → Bool
 all t [] = true
 all t (b ∷ bs) = t b && all t bs
 
--- the code is in the list
+-- the number is in the list
 unfoldable pub oneOf : List ℕ → ℕ → Bool
-oneOf [] c = false
-oneOf (x ∷ xs) c = if (eqb c x) (λ _. true) (λ _. oneOf xs c)
+oneOf [] n = false
+oneOf (x ∷ xs) n = if (eqb n x) (λ _. true) (λ _. oneOf xs n)
 
 -- two lists are the same bytes
 unfoldable pub sameBytes : List ℕ → List ℕ → Bool

@@ -1,14 +1,13 @@
 -- The calls that read: check, list, entry n, value of entry n, string, and the walk's step (01, "What the package reads and writes").
 -- Assumes nothing.
-use Prim.Native.Nat.{ℕ, zero, suc, _+_}
+use Prim.Native.Nat.{ℕ, zero, suc, _+_, _/_, _%_}
 use mathlib.Core.List.{List, [], _∷_, _++_}
 use mathlib.Core.Bool.{Bool, true, false}
 use lib.ListN.{length, drop}
 use lib.Dec.{ltb, leb, eqb}
 use Rattle.layout.specs.declared.Part.{Part}
-use Rattle.layout.specs.declared.Format.{Format}
 use Rattle.layout.specs.declared.Reading.{Reading}
-use Rattle.layout.specs.declared.Reading.the-variants.{Plain}
+use Rattle.layout.specs.declared.Reading.the-variants.{Plain, Text, Number, Addresses, Numbered, Tests, Identified, Batched}
 use Rattle.layout.specs.declared.Entry.{Entry}
 use Rattle.layout.specs.declared.Walk.{Walk}
 use Rattle.layout.specs.declared.Refusal.{Refusal}
@@ -48,6 +47,14 @@ entryOf S e p r =
 unfoldable pub entriesOf : Shape → ℕ → ℕ → List Raw → List Entry
 entriesOf S e p [] = []
 entriesOf S e p (r ∷ rs) = entryOf S e p r ∷ entriesOf S e (p + r .frame .size) rs
+
+-- 01's term "list": the records of an accepted image; of a refused one there are none
+abbrev pub entriesBy : Read → ℕ → List Entry
+entriesBy (accepted f start rs) e = entriesOf (shape f) e start rs
+entriesBy (refused r) e = []
+
+unfoldable pub entriesIn : ℕ → ℕ → List ℕ → List Entry
+entriesIn f e img = entriesBy (readImage f e img) e
 
 -- ---- check
 
@@ -158,27 +165,41 @@ stringAt f e img number = if (eqb f 3) (λ _. stringBy (readImage f e img) numbe
 
 -- ---- what an answer says
 
--- 01's "Numbers given back": a number (0 where nothing is refused), a place, a count and a part. A refusal has zero counts and an empty part
+-- a reading's number, and the numbers that it carries: 0 plain bytes, 1 text, 2 number, 3 address block (the base's high 16 and low 32 bits, the count),
+-- 4 string number, 5 test flags (the byte, the tests passed), 6 identity, 7 identity with batch
+unfoldable pub toldReading : Reading → List ℕ
+toldReading Plain = 0 ∷ []
+toldReading Text = 1 ∷ []
+toldReading (Number n) = 2 ∷ n ∷ []
+toldReading (Addresses base count) = 3 ∷ (base / 4294967296) ∷ (base % 4294967296) ∷ count ∷ []
+toldReading (Numbered s) = 4 ∷ s .0 ∷ []
+toldReading (Tests byte n) = 5 ∷ byte ∷ n ∷ []
+toldReading (Identified x) = 6 ∷ x .serial .0 ∷ x .part .0 ∷ x .major ∷ x .minor ∷ x .free0 ∷ x .free1 ∷ []
+toldReading (Batched x batch) = 7 ∷ x .serial .0 ∷ x .part .0 ∷ x .major ∷ x .minor ∷ x .free0 ∷ x .free1 ∷ batch ∷ []
+
+-- 01's "Numbers given back": a number (0 where nothing is refused), a place, a count, a part, and the entries that are given.
+-- A refusal has zero counts, an empty part and no entry
 pub record Told : Type 0 where
   pub number : ℕ
   pub place : ℕ
   pub count : ℕ
   pub part : Part
+  pub given : List Entry
 
 abbrev pub toldRefusal : Refusal → Told
-toldRefusal r = record { number = r .number; place = r .place .0; count = 0; part = partAt 0 0 }
+toldRefusal r = record { number = r .number; place = r .place .0; count = 0; part = partAt 0 0; given = [] }
 
-abbrev pub told : ℕ → Part → Told
-told n x = record { number = 0; place = 0; count = n; part = x }
+abbrev pub told : ℕ → Part → List Entry → Told
+told n x es = record { number = 0; place = 0; count = n; part = x; given = es }
 
 abbrev pub toldChecked : Checked → Told
-toldChecked (Accepted n) = told n (partAt 0 0)
+toldChecked (Accepted n) = told n (partAt 0 0) []
 toldChecked (Refused r) = toldRefusal r
 
 abbrev pub toldLookup : Lookup → Told
-toldLookup (Found x) = told 1 (partAt 0 0)
+toldLookup (Found x) = told 1 (partAt 0 0) (x ∷ [])
 toldLookup (Missing r) = toldRefusal r
 
 abbrev pub toldLocated : Located → Told
-toldLocated (At x) = told (x .len) x
+toldLocated (At x) = told (x .len) x []
 toldLocated (Nowhere r) = toldRefusal r

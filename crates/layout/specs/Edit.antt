@@ -12,7 +12,7 @@ use Rattle.layout.specs.Bytes.{if, refusal}
 use Rattle.layout.specs.Shape.{Shape}
 use Rattle.layout.specs.Editions.{shape, chosen, names}
 use Rattle.layout.specs.Walk.{Raw, flat}
-use Rattle.layout.specs.Read.{limit, Read, accepted, refused, bad, readAs}
+use Rattle.layout.specs.Read.{limit, Read, accepted, refused, readAs}
 use Rattle.layout.specs.Write.{Outcome, refuse, put, imageOf}
 
 -- the bytes of an entry with another value: what stands before its value's length, the length in its shortest form, the value

@@ -23,15 +23,16 @@ shape Tiny = tiny
 abbrev pub knownEdition : ℕ → Bool
 knownEdition e = between 1 2 e
 
-abbrev pub edited : ℕ → Format → Chosen
-edited e f = if (knownEdition e) (λ _. Known f) (λ _. Unknown 1)
+-- a format, where the edition is known
+abbrev pub withEdition : ℕ → Format → Chosen
+withEdition e f = if (knownEdition e) (λ _. Known f) (λ _. Unknown 1)
 
 -- the format and edition of a call: 16, then 1
 unfoldable pub chosen : ℕ → ℕ → Chosen
 chosen f e =
-    if (eqb f 1) (λ _. edited e Fboss)
-    (λ _. if (eqb f 2) (λ _. edited e Vpd)
-    (λ _. if (eqb f 3) (λ _. edited e Tiny)
+    if (eqb f 1) (λ _. withEdition e Fboss)
+    (λ _. if (eqb f 2) (λ _. withEdition e Vpd)
+    (λ _. if (eqb f 3) (λ _. withEdition e Tiny)
     (λ _. Unknown 16)))
 
 -- the first edition that names a code, or none
@@ -50,7 +51,7 @@ abbrev pub reached : Since → ℕ → Bool
 reached (from n) e = leb n e
 reached never e = false
 
--- 01's term "names": an edition names a code from its first edition on
+-- 01's term "names": an edition names a code where it is not before the first that does
 unfoldable pub names : Shape → ℕ → ℕ → Bool
 names S e c = reached (since S c) e
 

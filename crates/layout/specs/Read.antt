@@ -3,7 +3,7 @@
 use Prim.Native.Nat.{ℕ, zero, suc, _+_, _-_}
 use mathlib.Core.List.{List, [], _∷_, _++_}
 use mathlib.Core.Bool.{Bool, true, false, _&&_}
-use lib.ListN.{length, take, drop}
+use lib.ListN.{length, take}
 use lib.Dec.{ltb, eqb}
 use Rattle.layout.specs.declared.Format.{Format}
 use Rattle.layout.specs.declared.Chosen.{Chosen}
@@ -11,7 +11,7 @@ use Rattle.layout.specs.declared.Chosen.the-variants.{Known, Unknown}
 use Rattle.layout.specs.declared.Refusal.{Refusal}
 use Rattle.layout.specs.declared.Opened.{Opened}
 use Rattle.layout.specs.declared.Opened.the-variants.{Room, Closed}
-use Rattle.layout.specs.Bytes.{if, sameBytes, part, refusal}
+use Rattle.layout.specs.Bytes.{if, oneOf, sameBytes, part, refusal}
 use Rattle.layout.specs.Shape.{Shape, Label}
 use Rattle.layout.specs.Editions.{shape, chosen, names}
 use Rattle.layout.specs.Walk.{Raw, Content, content, labelOf, Walked, done, stop, walk}
@@ -63,15 +63,10 @@ judge S e seen (r ∷ rs) p =
     orElse (fault S e seen (content r)) p
     (λ _. judge S e (seen ++ (labelOf (content r) ∷ [])) rs (p + r .frame .size))
 
--- an entry of this code is there
-unfoldable pub has : List ℕ → ℕ → Bool
-has [] c = false
-has (x ∷ xs) c = if (eqb x c) (λ _. true) (λ _. has xs c)
-
 -- every required code is among these codes
 unfoldable pub complete : List ℕ → List ℕ → Bool
 complete [] codes = true
-complete (c ∷ cs) codes = has codes c && complete cs codes
+complete (c ∷ cs) codes = oneOf codes c && complete cs codes
 
 abbrev pub codesOf : List Raw → List ℕ
 codesOf [] = []

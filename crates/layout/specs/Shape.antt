@@ -1,7 +1,7 @@
 -- What a format is, and the frame of one entry, for any format.
 -- Assumes nothing.
 use Prim.Native.Nat.{ℕ, zero, suc, _+_}
-use mathlib.Core.List.{List, [], _∷_}
+use mathlib.Core.List.{List}
 use mathlib.Core.Bool.{Bool, true, false}
 use lib.ListN.{length, getD}
 use lib.Dec.{ltb, leb}
@@ -54,14 +54,14 @@ pub record Shape : Type 0 where
   pub opening : ℕ → List ℕ → List ℕ
   -- the bytes that say the length of a value of this code
   pub lens : ℕ → ℕ → List ℕ
-  -- the most bytes that an image may have
+  -- the most bytes that an image may have which is written
   pub most : ℕ
   -- the codes that editions name
   pub namings : List Naming
-  -- a named entry's rule on its key, as the reader and as the writer have it
+  -- a named entry's rule on its key: the reader's and the writer's are two, though 01 has them equal
   pub readerKey : ℕ → List ℕ → Bool
   pub writerKey : ℕ → List ℕ → Bool
-  -- a named entry's rule on its value, and on the length of a value that is written
+  -- a named entry's rule on its value, of a length that its frame or the next rule allows; and on the length of a value that is written
   pub valueRule : ℕ → List ℕ → Bool
   pub lengthRule : ℕ → ℕ → Bool
   -- the reading of a named entry's value

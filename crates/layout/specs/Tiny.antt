@@ -10,7 +10,7 @@ use Rattle.layout.specs.declared.Head.{Head}
 use Rattle.layout.specs.declared.Headed.{Headed}
 use Rattle.layout.specs.declared.Headed.the-variants.{Opens, Ends, Wrong}
 use Rattle.layout.specs.declared.Length.{Length}
-use Rattle.layout.specs.declared.Length.the-variants.{Reads, Fails}
+use Rattle.layout.specs.declared.Length.the-variants.{Reads}
 use Rattle.layout.specs.declared.Opened.{Opened}
 use Rattle.layout.specs.declared.Opened.the-variants.{Room, Closed}
 use Rattle.layout.specs.declared.Identity.{Identity}

@@ -3,7 +3,7 @@
 use Prim.Native.Nat.{ℕ, zero, suc, _+_, _*_, _-_}
 use mathlib.Core.List.{List, [], _∷_, _++_}
 use mathlib.Core.Bool.{Bool, true, false, _&&_}
-use lib.ListN.{length, getD, take, drop, replicate}
+use lib.ListN.{length, getD, drop, replicate}
 use lib.Dec.{ltb, leb}
 use Rattle.layout.specs.declared.Part.{Part}
 use Rattle.layout.specs.declared.Format.{Format}
@@ -29,7 +29,7 @@ word a s = getD s a 0 + getD s (a + 1) 0 * 256 + getD s (a + 2) 0 * 65536 + getD
 abbrev pub fieldAt : List ℕ → Field
 fieldAt s = record { code = word 0 s; key = partAt (word 4 s) (word 8 s); value = partAt (word 12 s) (word 16 s) }
 
--- the first n fields of s, which has 20 bytes for each
+-- at most n fields of s, 20 bytes for each
 unfoldable pub fields : ℕ → List ℕ → List Field
 fields zero s = []
 fields (suc n) s = if (ltb (length s) 20) (λ _. []) (λ _. fieldAt s ∷ fields n (drop 20 s))
@@ -152,5 +152,5 @@ unfoldable pub writeImage : ℕ → ℕ → List Field → List ℕ → List ℕ
 writeImage f e xs values out = writeChosen (chosen f e) e xs values out
 
 abbrev pub toldMade : Made → Told
-toldMade (Wrote n) = told n (partAt 0 0)
+toldMade (Wrote n) = told n (partAt 0 0) []
 toldMade (Unwritten r) = toldRefusal r

@@ -1,6 +1,6 @@
 // The types that the definitions of specs/ and the code of the other crates share. There is no function here.
 
-// 01's term "place": it counts bytes of the image. In a write's refusal it is a field's number in the list.
+// 01's term "place": it counts bytes of the image. In a field it counts bytes of the lent values, and in a write's refusal it may be a field's number in the list.
 pub struct Place(pub usize);
 
 // 01's term "string number": it counts the strings of a Tiny pool, from 0.
@@ -115,14 +115,14 @@ pub struct Stepped {
     pub next: Walk,
 }
 
-// What an image's header says: its entries start at the first place and have room up to the second.
+// What an image's header says: its entries start at the first place, and their room ends before the second.
 pub enum Opened {
     Room(usize, usize),
     Closed(Refusal),
 }
 
 // What stands before the length of a value: the code, the key's place and length, and the place where the value's length begins.
-// These places count from the entry's first byte.
+// These places count from the entry's first byte. In a format without keys the key is empty and stands where the value's length begins.
 pub struct Head {
     pub code: u32,
     pub key: usize,
@@ -138,7 +138,7 @@ pub enum Headed {
     Wrong(u32),
 }
 
-// A length that was read, with the place after it; or the number of the refusal.
+// A length that was read, with the place after it, from the entry's first byte; or the number of the refusal.
 pub enum Length {
     Reads(usize, usize),
     Fails(u32),

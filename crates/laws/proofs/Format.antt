@@ -1,0 +1,83 @@
+-- What is asked of a format: its definitions read exactly what its grammar writes, and write what it reads.
+-- Assumes nothing.
+use Prim.Native.Nat.{ℕ, zero, suc, _+_, _-_, _≤_, _<_}
+use mathlib.Core.Path.{_≡_}
+use mathlib.Core.List.{List, [], _∷_, _++_}
+use mathlib.Core.Bool.{Bool, true, false}
+use lib.ListN.{length, drop}
+use Rattle.layout.specs.declared.Head.{Head}
+use Rattle.layout.specs.declared.Headed.the-variants.{Opens, Ends, Wrong}
+use Rattle.layout.specs.declared.Length.the-variants.{Reads, Fails}
+use Rattle.layout.specs.declared.Opened.the-variants.{Room, Closed}
+use Rattle.layout.specs.Bytes.{part}
+use Rattle.layout.specs.Shape.{Shape}
+use Rattle.layout.specs.Editions.{names}
+use Rattle.layout.specs.Read.{limit}
+use Rattle.laws.specs.Grammar.{Grammar}
+
+-- the head that bytes of an opening are read as: the key is what they end with
+abbrev pub headFrom : List ℕ → ℕ → List ℕ → Head
+headFrom front c key = record { code = c; key = length front - length key; klen = length key; at = length front }
+
+-- s begins with an opening that is read as h
+pub record Begins (G : Grammar) (s : List ℕ) (h : Head) : Type 0 where
+  pub front : List ℕ
+  pub key : List ℕ
+  pub rest : List ℕ
+  pub joined : s ≡ front ++ rest
+  pub opens : G .Opening front (h .code) key
+  pub says : h ≡ headFrom front (h .code) key
+
+-- after an opening, s goes on with bytes that say the length v of a value, which begins at j
+pub record Goes (G : Grammar) (s : List ℕ) (h : Head) (v j : ℕ) : Type 0 where
+  pub lens : List ℕ
+  pub rest : List ℕ
+  pub joined : drop (h .at) s ≡ lens ++ rest
+  pub says : G .Says (h .code) lens v
+  pub ends : j ≡ h .at + length lens
+
+-- the key is what an opening ends with
+pub record KeyLast (front key : List ℕ) : Type 0 where
+  pub before : List ℕ
+  pub joined : front ≡ before ++ key
+  pub some : 0 < length before
+
+-- an image with these entries opens to a room that holds them and then their end
+pub record Holds (S : Shape) (image entries : List ℕ) : Type 0 where
+  pub end : ℕ
+  pub rest : List ℕ
+  pub opened : S .opened image ≡ Room (length (S .header (length entries))) end
+  pub room : part (length (S .header (length entries))) (end - length (S .header (length entries))) image ≡ entries ++ rest
+  pub ends : (b : Bool) → S .head b rest ≡ Ends
+
+-- an image is a header, these entries, a closing and a rest
+pub record Wholly (S : Shape) (G : Grammar) (image entries : List ℕ) : Type 0 where
+  pub closing : List ℕ
+  pub rest : List ℕ
+  pub closes : G .Closing closing
+  pub is : image ≡ S .header (length entries) ++ (entries ++ (closing ++ rest))
+
+pub record Laws (S : Shape) (G : Grammar) : Type 1 where
+  -- heads
+  pub opening-key : (front key : List ℕ) (c : ℕ) → G .Opening front c key → KeyLast front key
+  pub head-sound : (b : Bool) (s : List ℕ) (h : Head) → S .head b s ≡ Opens h → Begins G s h
+  pub head-complete : (front key t : List ℕ) (c : ℕ) → G .Opening front c key → S .head false (front ++ t) ≡ Opens (headFrom front c key)
+  -- after an entry that none may follow nothing opens
+  pub head-shut : (c : ℕ) (s : List ℕ) (h : Head) → S .last c ≡ true → S .head true s ≡ Opens h → ⊥
+  -- lengths
+  pub vlen-sound : (s : List ℕ) (h : Head) (v j : ℕ) → h .at ≤ length s → S .vlen h s ≡ Reads v j → Goes G s h v j
+  pub vlen-complete : (a lens t : List ℕ) (h : Head) (v : ℕ) → length a ≡ h .at → G .Says (h .code) lens v →
+      S .vlen h (a ++ (lens ++ t)) ≡ Reads v (h .at + length lens)
+  -- what is written
+  pub opening-made : (e c : ℕ) (key : List ℕ) → names S e c ≡ true → length key ≤ limit → (S .keyed ≡ false → key ≡ []) → G .Opening (S .opening c key) c key
+  pub lens-made : (c n : ℕ) → S .lengthRule c n ≡ true → n ≤ limit → G .Says c (S .lens c n) n
+  pub key-made : (c : ℕ) (key : List ℕ) → S .writerKey c key ≡ true → S .readerKey c key ≡ true
+  -- images
+  pub closing-made : G .Closing (S .closing)
+  pub closing-length : (z : List ℕ) → G .Closing z → length z ≡ length (S .closing)
+  pub room-made : (entries z t : List ℕ) → G .Closing z →
+      let image = S .header (length entries) ++ (entries ++ (z ++ (S .check (S .header (length entries) ++ entries) ++ t))) in
+      Holds S image entries
+  pub room-sound : (b : Bool) (image entries rest : List ℕ) (start end : ℕ) → S .opened image ≡ Room start end →
+      part start (end - start) image ≡ entries ++ rest → S .head b rest ≡ Ends →
+      (start ≡ length (S .header (length entries))) × Wholly S G image entries
