@@ -60,6 +60,7 @@ pub record Wholly (S : Shape) (G : Grammar) (image entries : List ℕ) : Type 0 
 pub record Laws (S : Shape) (G : Grammar) : Type 1 where
   -- heads
   pub opening-key : (front key : List ℕ) (c : ℕ) → G .Opening front c key → KeyLast front key
+  pub keyless : (front key : List ℕ) (c : ℕ) → S .keyed ≡ false → G .Opening front c key → key ≡ []
   pub head-sound : (b : Bool) (s : List ℕ) (h : Head) → S .head b s ≡ Opens h → Begins G s h
   pub head-complete : (front key t : List ℕ) (c : ℕ) → G .Opening front c key → S .head false (front ++ t) ≡ Opens (headFrom front c key)
   -- after an entry that none may follow nothing opens
@@ -70,6 +71,7 @@ pub record Laws (S : Shape) (G : Grammar) : Type 1 where
       S .vlen h (a ++ (lens ++ t)) ≡ Reads v (h .at + length lens)
   -- what is written
   pub opening-made : (e c : ℕ) (key : List ℕ) → names S e c ≡ true → length key ≤ limit → (S .keyed ≡ false → key ≡ []) → G .Opening (S .opening c key) c key
+  pub opening-long : (c : ℕ) (key : List ℕ) → (S .keyed ≡ false → key ≡ []) → length key ≤ length (S .opening c key)
   pub lens-made : (c n : ℕ) → S .lengthRule c n ≡ true → n ≤ limit → G .Says c (S .lens c n) n
   pub key-made : (c : ℕ) (key : List ℕ) → S .writerKey c key ≡ true → S .readerKey c key ≡ true
   -- images

@@ -23,7 +23,8 @@ use Rattle.laws.specs.Grammar.{Grammar, grammar, Lawful}
 use Rattle.laws.proofs.Format.{Laws, Holds, Wholly}
 use Rattle.laws.proofs.Frames.{part-between}
 use Rattle.laws.proofs.Walking.{Frames, Decoded, walk-flat, walk-decode}
-use Rattle.laws.proofs.Judging.{false-true, judge-lawful, lawful-judge}
+use Rattle.laws.proofs.Judging.{judge-lawful, lawful-judge}
+use Rattle.laws.proofs.Choices.{false-true}
 
 -- ---- the same bytes
 

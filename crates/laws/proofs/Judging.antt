@@ -12,17 +12,16 @@ use Rattle.layout.specs.Shape.{Shape, Label}
 use Rattle.layout.specs.Editions.{Since, from, never, since, reached, names}
 use Rattle.layout.specs.Walk.{Raw, Content, content, labelOf}
 use Rattle.layout.specs.Read.{same, seenBefore, readerRule, fault, Judged, fine, faulty, orElse, judge}
+use Rattle.laws.specs.Contents.{valued, replaced}
 use Rattle.laws.specs.Grammar.{Ruled, New, Each, none, also, Lawful, noMore, andThen}
-
-pub false-true : {A : Type 0} → false ≡ true → A
-false-true e = let z : _≡_ {A = ℕ} 0 1 = cc in absurd (omega arith)
+use Rattle.laws.proofs.Choices.{false-true, both}
 
 pub each-map : {A : Type 0} {P Q : A → Type 0} {xs : List A} → ((x : A) → P x → Q x) → Each P xs → Each Q xs
 each-map f none = none
 each-map f (also p ps) = also (f _ p) (each-map f ps)
 
 -- not seen before: no label seen is the same
-unseen : (S : Shape) (a : Label) (seen : List Label) → seenBefore S seen a ≡ false → Each (λ b. same S a b ≡ false) seen
+pub unseen : (S : Shape) (a : Label) (seen : List Label) → seenBefore S seen a ≡ false → Each (λ b. same S a b ≡ false) seen
 unfolding seenBefore
 unseen S a [] e = none
 unseen S a (b ∷ bs) e = go (same S a b) refl e (unseen S a bs)
@@ -101,29 +100,15 @@ lawful-down S o n seen (c ∷ cs) le (andThen r w l) =
 
 -- ---- another value
 
--- an entry with another value
-abbrev pub valued : Content → List ℕ → Content
-valued c v = record { code = c .code; key = c .key; value = v }
-
--- entries with another value for entry i
-unfoldable pub replaced : List Content → ℕ → List ℕ → List Content
-replaced [] i v = []
-replaced (c ∷ cs) zero v = valued c v ∷ cs
-replaced (c ∷ cs) (suc i) v = c ∷ replaced cs i v
-
 -- the new value meets the rule of entry i
 abbrev pub RuledAt : Shape → List Content → ℕ → List ℕ → Type 0
 RuledAt S [] i v = Unit {0}
 RuledAt S (c ∷ cs) zero v = S .valueRule (c .code) v ≡ true
 RuledAt S (c ∷ cs) (suc i) v = RuledAt S cs i v
 
-pub and-both : (a b : Bool) → a && b ≡ true → (a ≡ true) × (b ≡ true)
-and-both true b e = (refl, e)
-and-both false b e = false-true e
-
 ruled-valued : (S : Shape) (e : ℕ) (c : Content) (v : List ℕ) → S .valueRule (c .code) v ≡ true → Ruled S e c → Ruled S e (valued c v)
 unfolding readerRule
-ruled-valued S e c v ok r m = rw (and-both (S .readerKey (c .code) (c .key)) (S .valueRule (c .code) (c .value)) (r m) .0, ok)
+ruled-valued S e c v ok r m = rw (both (S .readerKey (c .code) (c .key)) (S .valueRule (c .code) (c .value)) (r m) .0, ok)
 
 -- a new value that meets its rule keeps entries lawful, to every edition
 pub lawful-replaced : (S : Shape) (e : ℕ) (seen : List Label) (cs : List Content) (i : ℕ) (v : List ℕ) → RuledAt S cs i v → Lawful S e seen cs → Lawful S e seen (replaced cs i v)

@@ -1,5 +1,17 @@
+pub mod Calls
+pub mod Choices
+pub mod Editing
+pub mod Fboss
 pub mod Format
+pub mod Formats
 pub mod Frames
 pub mod Images
 pub mod Judging
+pub mod LengthBytes
+pub mod Lists
+pub mod OneByte
+pub mod Records
+pub mod Tiny
+pub mod Vpd
 pub mod Walking
+pub mod Writing
