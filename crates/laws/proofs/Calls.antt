@@ -69,6 +69,11 @@ pub record Reading (f e : ℕ) (image : List ℕ) (g : Format) (start : ℕ) (rs
 never-refused : {A : Type 0} {n p : ℕ} {g : Format} {start : ℕ} {rs : List Raw} → bad n p ≡ accepted g start rs → A
 never-refused e = let z : _≡_ {A = ℕ} 0 1 = cc in absurd (omega arith)
 
+-- a short image of a known format is read as that format has it
+pub image-read : (f e : ℕ) (image : List ℕ) (g : Format) (x : Read) → chosen f e ≡ Known g → ltb limit (length image) ≡ false → readAs g e image ≡ x → readImage f e image ≡ x
+unfolding readImage
+image-read f e image g x k l r = rw (k, l) r
+
 -- an image that is read as accepted is what the laws have
 pub accepted-reading : (f e : ℕ) (image : List ℕ) (g : Format) (start : ℕ) (rs : List Raw) → readImage f e image ≡ accepted g start rs → Reading f e image g start rs
 unfolding readImage
@@ -83,7 +88,7 @@ accepted-reading f e image g start rs q = choose (chosen f e) refl q
         (record {
           known = k;
           short = ltb-false limit (length image) l;
-          read = unfold readImage in (rw (k, l) (rw same at q));
+          read = image-read f e image h (accepted h start rs) k l (rw same at q);
           made = m .1;
         })
 

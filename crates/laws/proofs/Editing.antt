@@ -92,17 +92,17 @@ module _ {S : Shape} {G : Grammar} (L : Laws S G) where
       let front : take (r .frame .at) (r .bytes) ≡ i .front = rw (i .is, at) (take-at (i .front) (i .lens ++ i .value) (length (i .front)) refl) in
       let heads : headOf (r .frame) ≡ headFrom (i .front) (i .code) (i .key) = ap headOf (i .framed) in
       let j : IsRaw G (revaluedRaw S r v) =
-          record {
-            front = i .front;
-            lens = lens;
-            code = i .code;
-            key = i .key;
-            value = v;
-            is = ap (λ (x : List ℕ). x ++ (lens ++ v)) front;
-            opens = i .opens;
-            says = rw (← code) (L .lens-made (r .frame .code) (length v) ok short);
-            framed = ap₂ (λ (h : Head) (n : ℕ). frameOf h (length v) (n + length lens)) heads at;
-          } in
+      record {
+        front = i .front;
+        lens = lens;
+        code = i .code;
+        key = i .key;
+        value = v;
+        is = ap (λ (x : List ℕ). x ++ (lens ++ v)) front;
+        opens = i .opens;
+        says = rw (← code) (L .lens-made (r .frame .code) (length v) ok short);
+        framed = ap₂ (λ (h : Head) (n : ℕ). frameOf h (length v) (n + length lens)) heads at;
+      } in
       let old : content r ≡ record { code = i .code; key = i .key; value = i .value } = raw-content L r i in
       (j, raw-content L (revaluedRaw S r v) j ∙ sym (ap (λ (c : Content). valued c v) old))
 

@@ -109,6 +109,7 @@ fboss-laws =
           });
       opening-long = λ c key k. omega (arith, ap length (k refl));
       lens-made = λ c n r l. refl;
+      lens-shortest = λ c n l bytes says. omega (arith, ap length says);
       key-made = λ c key r. r;
       closing-made = refl;
       closing-length = λ z is. ap length is;

@@ -13,7 +13,7 @@ use Rattle.layout.specs.Bytes.{part}
 use Rattle.layout.specs.Shape.{Shape}
 use Rattle.layout.specs.Editions.{names}
 use Rattle.layout.specs.Read.{limit}
-use Rattle.laws.specs.Grammar.{Grammar}
+use Rattle.laws.specs.Grammar.{Grammar, Each}
 
 -- the head that bytes of an opening are read as: the key is what they end with
 abbrev pub headFrom : List ℕ → ℕ → List ℕ → Head
@@ -73,6 +73,7 @@ pub record Laws (S : Shape) (G : Grammar) : Type 1 where
   pub opening-made : (e c : ℕ) (key : List ℕ) → names S e c ≡ true → length key ≤ limit → (S .keyed ≡ false → key ≡ []) → G .Opening (S .opening c key) c key
   pub opening-long : (c : ℕ) (key : List ℕ) → (S .keyed ≡ false → key ≡ []) → length key ≤ length (S .opening c key)
   pub lens-made : (c n : ℕ) → S .lengthRule c n ≡ true → n ≤ limit → G .Says c (S .lens c n) n
+  pub lens-shortest : (c n : ℕ) (l : List ℕ) → Each (λ b. b < 256) l → G .Says c l n → length (S .lens c n) ≤ length l
   pub key-made : (c : ℕ) (key : List ℕ) → S .writerKey c key ≡ true → S .readerKey c key ≡ true
   -- images
   pub closing-made : G .Closing (S .closing)

@@ -1,6 +1,6 @@
 -- The length bytes of VPD 2.0: what is read is what the grammar says, and the shortest are among them.
 -- Assumes nothing.
-use Prim.Native.Nat.{ℕ, zero, suc, _+_, _*_, _-_, _/_, _%_, _<_}
+use Prim.Native.Nat.{ℕ, zero, suc, _+_, _*_, _-_, _/_, _%_, _≤_, _<_}
 use mathlib.Core.Path.{_≡_, refl, ap, _∙_}
 use mathlib.Core.List.{List, [], _∷_, _++_}
 use mathlib.Core.Bool.{Bool, true, false}
@@ -12,7 +12,7 @@ use lib.Dec.{ltb}
 use borrow.Author.Tests.{ltb-true, ltb-false, lt-ltb, le-ltb}
 use Rattle.layout.specs.declared.Length.the-variants.{Reads, Fails}
 use Rattle.layout.specs.Vpd.{groups, shortest}
-use Rattle.laws.specs.Grammar.{LengthBytes, lastByte, moreByte}
+use Rattle.laws.specs.Grammar.{LengthBytes, lastByte, moreByte, Each, none, also}
 
 -- s has, from j on, at most k length bytes that say v, where the bytes before them said `far`; and they end at i
 pub record Said (k far j : ℕ) (s : List ℕ) (v i : ℕ) : Type 0 where
@@ -85,3 +85,25 @@ shortest-says n = go (ltb n 128) (ltb n 16384) (ltb n 2097152) refl refl refl
     go false false false e₀ e₁ e₂ =
         rw (e₀, e₁, e₂)
         (more-says (n / 2097152) (more-says (n / 16384 % 128) (more-says (n / 128 % 128) (last-says (omega arith) (omega arith)))))
+
+-- how long the shortest are
+shortest-long : (n : ℕ) → (n < 128 → length (shortest n) ≤ 1) × (n < 16384 → length (shortest n) ≤ 2) × (n < 2097152 → length (shortest n) ≤ 3) × (length (shortest n) ≤ 4)
+unfolding shortest
+shortest-long n = go (ltb n 128) (ltb n 16384) (ltb n 2097152) refl refl refl
+  where
+    go : (b₀ b₁ b₂ : Bool) → ltb n 128 ≡ b₀ → ltb n 16384 ≡ b₁ → ltb n 2097152 ≡ b₂ →
+        (n < 128 → length (shortest n) ≤ 1) × (n < 16384 → length (shortest n) ≤ 2) × (n < 2097152 → length (shortest n) ≤ 3) × (length (shortest n) ≤ 4)
+    go true b₁ b₂ e₀ e₁ e₂ = rw e₀ (λ lt. omega arith, λ lt. omega arith, λ lt. omega arith, omega arith)
+    go false true b₂ e₀ e₁ e₂ = rw (e₀, e₁) (λ lt. omega (arith, ltb-false n 128 e₀), λ lt. omega arith, λ lt. omega arith, omega arith)
+    go false false true e₀ e₁ e₂ =
+        rw (e₀, e₁, e₂) (λ lt. omega (arith, ltb-false n 128 e₀), λ lt. omega (arith, ltb-false n 16384 e₁), λ lt. omega arith, omega arith)
+    go false false false e₀ e₁ e₂ =
+        rw (e₀, e₁, e₂) (λ lt. omega (arith, ltb-false n 128 e₀), λ lt. omega (arith, ltb-false n 16384 e₁), λ lt. omega (arith, ltb-false n 2097152 e₂), omega arith)
+
+-- no bytes say a length in fewer than the shortest
+pub shortest-least : {n : ℕ} {l : List ℕ} → Each (λ b. b < 256) l → LengthBytes 4 0 l n → length (shortest n) ≤ length l
+shortest-least (also x₀ none) (lastByte {b = b} lt) = shortest-long (0 * 128 + b) .0 (omega arith)
+shortest-least (also x₀ (also x₁ none)) (moreByte {b = a} le (lastByte {b = b} lt)) = shortest-long ((0 * 128 + (a - 128)) * 128 + b) .1 (omega arith)
+shortest-least (also x₀ (also x₁ (also x₂ none))) (moreByte {b = a₀} le₀ (moreByte {b = a₁} le₁ (lastByte {b = b} lt))) =
+    shortest-long (((0 * 128 + (a₀ - 128)) * 128 + (a₁ - 128)) * 128 + b) .2 (omega arith)
+shortest-least {n} (also x₀ (also x₁ (also x₂ (also x₃ xs)))) says = let h = shortest-long n .3 in omega arith

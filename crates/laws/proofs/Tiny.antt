@@ -3,7 +3,7 @@
 use Prim.Native.Nat.{ℕ, _+_, _-_, _/_, _≤_}
 use mathlib.Core.Path.{_≡_, refl, sym, _∙_, ap}
 use mathlib.Core.List.{List, [], _∷_, _++_, append-nil}
-use mathlib.Core.Logic.{inl, inr}
+use mathlib.Core.Logic.{inl, inr, ⊎-elim}
 use mathlib.Core.Bool.{Bool, true, false, _&&_}
 use native.Mathlib.Omega.{arith}
 use native.Mathlib.Nat.{add-zero}
@@ -112,6 +112,11 @@ tiny-laws =
           either (λ bytes. TinySays c bytes n) (ltb c 16)
           (λ low. inl (ltb-true c 16 low, refl))
           (λ high. inr (ltb-false c 16 high, refl, eqb-true n (c / 16) (rw high at rule)));
+      lens-shortest = λ c n l bytes says.
+          ⊎-elim
+          (λ low. rw (lt-ltb c 16 (low .0)) (omega (arith, ap length (low .1))))
+          (λ high. rw (le-ltb c 16 (high .0)) (omega arith))
+          says;
       key-made = λ c key r. r;
       closing-made = refl;
       closing-length = λ z is. ap length is;

@@ -19,7 +19,7 @@ use Rattle.layout.specs.Editions.{names, sinceIn}
 use Rattle.layout.specs.Vpd.{vpd, vpdHead, keyedHead, groups, vpdReaderKey, vpdWriterKey, shortest}
 use Rattle.laws.specs.Grammar.{vpdGrammar, VpdOpening}
 use Rattle.laws.proofs.Format.{headFrom, Begins, Wholly, Laws}
-use Rattle.laws.proofs.LengthBytes.{Said, groups-sound, groups-complete, shortest-says}
+use Rattle.laws.proofs.LengthBytes.{Said, groups-sound, groups-complete, shortest-says, shortest-least}
 
 -- a code that opens an entry
 abbrev Typed : ℕ → Type 0
@@ -130,6 +130,7 @@ vpd-laws =
       opening-made = λ e c key h le bare. record { lens = _; is = refl; says = shortest-says (length key); typed = named e c h };
       opening-long = λ c key bare. omega (arith, length-append (shortest (length key)) key);
       lens-made = λ c n h le. shortest-says n;
+      lens-shortest = λ c n l bytes says. shortest-least bytes says;
       key-made = λ c key h. h;
       closing-made = inl refl;
       closing-length = λ z. ⊎-elim (λ e. ap length e) (λ e. ap length e);

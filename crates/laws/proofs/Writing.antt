@@ -94,9 +94,10 @@ module _ {S : Shape} {G : Grammar} (L : Laws S G) where
       let c : Content = fieldContent S values x in
       let k = or-fine (fieldFault S e values b seen x) i (λ _. judgeFields S e values (S .last (x .code)) (seen ++ (labelOf c ∷ [])) xs (i + 1)) h in
       let g : Good S e b seen c = field-good S e values b seen x (k .0) in
-      let r = fields-fine e values (S .last (x .code)) (seen ++ (labelOf c ∷ [])) xs (i + 1) (k .1) in
-      ((g .unshut, g .named, g .ruled, keyless (S .keyed) x values, r .0),
-      andThen (λ m. reader-rule c (g .ruled)) (each-map (λ d y m. y) (unseen S (labelOf c) seen (g .new))) (r .1))
+      let r = fields-fine e values (S .last (x .code)) (seen ++ (labelOf c ∷ [])) xs (i + 1) (k .1) in (
+        (g .unshut, g .named, g .ruled, keyless (S .keyed) x values, r .0),
+        andThen (λ m. reader-rule c (g .ruled)) (each-map (λ d y m. y) (unseen S (labelOf c) seen (g .new))) (r .1),
+      )
 
   -- a new entry is an entry of the grammar, and says what it was made of
   fresh-raw : (e : ℕ) (c : Content) → names S e (c .code) ≡ true → writerRule S c ≡ true → (S .keyed ≡ false → c .key ≡ []) → length (entryBytes S c) ≤ limit →
@@ -107,17 +108,17 @@ module _ {S : Shape} {G : Grammar} (L : Laws S G) where
       let l : List ℕ = S .lens (c .code) (length (c .value)) in
       let long : length (o ++ (l ++ c .value)) ≡ length o + (length l + length (c .value)) = simp length-append refl in
       let i : IsRaw G (fresh S c) =
-          record {
-            front = o;
-            lens = l;
-            code = c .code;
-            key = c .key;
-            value = c .value;
-            is = refl;
-            opens = L .opening-made e (c .code) (c .key) n (omega (arith, L .opening-long (c .code) (c .key) k)) k;
-            says = L .lens-made (c .code) (length (c .value)) (writer-parts S c w .1) (omega arith);
-            framed = refl;
-          } in
+      record {
+        front = o;
+        lens = l;
+        code = c .code;
+        key = c .key;
+        value = c .value;
+        is = refl;
+        opens = L .opening-made e (c .code) (c .key) n (omega (arith, L .opening-long (c .code) (c .key) k)) k;
+        says = L .lens-made (c .code) (length (c .value)) (writer-parts S c w .1) (omega arith);
+        framed = refl;
+      } in
       (i, raw-content L (fresh S c) i)
 
   -- what can be written is entries of the grammar that say just that

@@ -1,0 +1,52 @@
+-- What an accepted image's calls answer.
+-- Assumes nothing.
+use Prim.Native.Nat.{ℕ, zero, suc, _+_, _≤_}
+use mathlib.Core.Path.{_≡_, refl, ap, sym, _∙_}
+use mathlib.Core.List.{List, [], _∷_, _++_, map}
+use mathlib.Core.Bool.{false}
+use native.Mathlib.Omega.{arith}
+use lib.ListN.{length, drop}
+use borrow.Author.Tests.{le-leb}
+use Rattle.layout.specs.declared.Format.{Format}
+use Rattle.layout.specs.declared.Entry.{Entry}
+use Rattle.layout.specs.declared.Checked.the-variants.{Accepted}
+use Rattle.layout.specs.Shape.{Shape}
+use Rattle.layout.specs.Editions.{shape}
+use Rattle.layout.specs.Walk.{Raw, Content, content, flat}
+use Rattle.layout.specs.Read.{Read, accepted, readImage}
+use Rattle.layout.specs.Calls.{entriesOf, checkImage, listEntries}
+use Rattle.laws.specs.Contents.{said}
+use Rattle.laws.proofs.Images.{Accepts}
+use Rattle.laws.proofs.Records.{records-said}
+use Rattle.laws.proofs.Formats.{laws}
+use Rattle.laws.proofs.Calls.{Reading}
+use Rattle.promises.specs.Words.{Lists, Reads}
+
+-- as many records as entries
+pub entries-count : (S : Shape) (e p : ℕ) (rs : List Raw) → length (entriesOf S e p rs) ≡ length rs
+unfolding entriesOf
+entries-count S e p [] = refl
+entries-count S e p (r ∷ rs) = ap suc (entries-count S e (p + r .frame .size) rs)
+
+module _ (f e : ℕ) (image : List ℕ) (g : Format) (start : ℕ) (rs : List Raw) (r : Reading f e image g start rs) where
+  pub accepts : checkImage f e image ≡ Accepted (length rs)
+  unfolding checkImage
+  accepts = rw (r .read)
+
+  pub lists : Lists f e image (entriesOf (shape g) e start rs)
+  unfolding listEntries
+  lists records le = rw (r .read, le-leb (length (entriesOf (shape g) e start rs)) (length records) le)
+
+  pub records-say : map (said image) (entriesOf (shape g) e start rs) ≡ map content rs
+  records-say =
+      let m = r .made in
+      rw (m .is) (records-said (laws g) e false rs start (shape g .header (length (flat rs))) _ (m .frames) (sym (m .starts)))
+
+  pub reads : Reads f e image (map content rs)
+  reads =
+      record {
+        entries = entriesOf (shape g) e start rs;
+        accepted = rw (entries-count (shape g) e start rs) accepts;
+        listed = lists;
+        says = records-say;
+      }

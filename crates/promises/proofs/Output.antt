@@ -1,0 +1,76 @@
+-- What a write and an edit leave in the output, and that it is read as what was put there.
+-- Assumes nothing.
+use Prim.Native.Nat.{ℕ, zero, suc, _+_, _-_, _≤_}
+use mathlib.Core.Path.{_≡_, refl, ap, sym, _∙_}
+use mathlib.Core.List.{List, [], _∷_, _++_, append-nil, map}
+use mathlib.Core.Bool.{Bool, true, false, _&&_}
+use native.Mathlib.Omega.{arith}
+use lib.ListN.{length, take, replicate, length-append, length-replicate}
+use lib.Seq.{take-at}
+use lib.Dec.{leb}
+use borrow.Author.Tests.{leb-true}
+use Rattle.layout.specs.declared.Format.{Format}
+use Rattle.layout.specs.declared.Refusal.{Refusal}
+use Rattle.layout.specs.declared.Chosen.the-variants.{Known}
+use Rattle.layout.specs.declared.Made.the-variants.{Wrote, Unwritten}
+use Rattle.layout.specs.Bytes.{if, refusal}
+use Rattle.layout.specs.Shape.{Shape}
+use Rattle.layout.specs.Editions.{shape, chosen}
+use Rattle.layout.specs.Walk.{Raw, content, flat}
+use Rattle.layout.specs.Read.{limit, complete, codesOf}
+use Rattle.layout.specs.Write.{Outcome, refuse, padded, put, imageOf}
+use Rattle.laws.specs.Grammar.{grammar, Lawful}
+use Rattle.laws.proofs.Choices.{false-true, both}
+use Rattle.laws.proofs.Walking.{Frames}
+use Rattle.laws.proofs.Images.{imageFrom}
+use Rattle.laws.proofs.Writing.{image-made}
+use Rattle.laws.proofs.Formats.{laws}
+use Rattle.laws.proofs.Calls.{accepted-reading, made-reading}
+use Rattle.promises.specs.Words.{Reads}
+use Rattle.promises.proofs.Accepting.{reads}
+
+-- an image is longer than its entries
+pub entries-shorter : (S : Shape) (entries : List ℕ) → length entries ≤ length (imageOf S entries)
+unfolding imageOf
+entries-shorter S entries = simp length-append (omega arith)
+
+pub never-unwritten : {A : Type 0} {r : Refusal} {m : ℕ} → Unwritten r ≡ Wrote m → A
+never-unwritten e = let z : _≡_ {A = ℕ} 0 1 = cc in absurd (omega arith)
+
+-- an output that took an image of so many bytes
+pub record Took (image out : List ℕ) (m : ℕ) (memory : List ℕ) : Type 0 where
+  pub long : m ≡ length image
+  pub fits : length image ≤ length out
+  pub padding : memory ≡ image ++ replicate (length out - m) 0xFF
+
+pub put-took : (S : Shape) (image out : List ℕ) (m : ℕ) → put S image out .answer ≡ Wrote m → Took image out m (put S image out .memory)
+unfolding put
+put-took S image out m q = go (leb (length image) (S .most) && leb (length image) (length out)) refl q
+  where
+    go : (b : Bool) → leb (length image) (S .most) && leb (length image) (length out) ≡ b →
+        if {A = Outcome} b (λ _. record { answer = Wrote (length image); memory = padded image (length out) }) (λ _. refuse (refusal 12 0) out) .answer ≡ Wrote m →
+        Took image out m (if {A = Outcome} b (λ _. record { answer = Wrote (length image); memory = padded image (length out) }) (λ _. refuse (refusal 12 0) out) .memory)
+    go true t q =
+        let e : m ≡ length image = cc in
+        record { long = e; fits = leb-true (length image) (length out) (both (leb (length image) (S .most)) (leb (length image) (length out)) t .1); padding = rw e }
+    go false t q = never-unwritten q
+
+-- an output that took the image of lawful and complete entries is read as those, whole and up to the length given
+pub took-reads : (f e : ℕ) (g : Format) (rs : List Raw) (out : List ℕ) (m : ℕ) (memory : List ℕ) → chosen f e ≡ Known g → Frames (shape g) (grammar g) false rs →
+    Lawful (shape g) e [] (map content rs) → complete (shape g .required) (codesOf rs) ≡ true → length out ≤ limit → Took (imageOf (shape g) (flat rs)) out m memory →
+    Reads f e memory (map content rs) × Reads f e (take m memory) (map content rs)
+took-reads f e g rs out m memory k fs lw cm short t =
+    let image : List ℕ = imageOf (shape g) (flat rs) in
+    let pad : List ℕ = replicate (length out - m) 0xFF in
+    let whole : memory ≡ imageFrom (shape g) (flat rs) (shape g .closing) pad = t .padding ∙ image-made (shape g) (flat rs) pad in
+    let front : take m memory ≡ imageFrom (shape g) (flat rs) (shape g .closing) []
+    = ap (take m) (t .padding) ∙ take-at image pad m (sym (t .long)) ∙ sym (append-nil image) ∙ image-made (shape g) (flat rs) [] in
+    let long : length memory ≡ length image + length pad = ap length (t .padding) ∙ length-append image pad in
+    let read : (x : List ℕ) → length (imageFrom (shape g) (flat rs) (shape g .closing) x) ≤ limit → Reads f e (imageFrom (shape g) (flat rs) (shape g .closing) x) (map content rs)
+    = (λ x le.
+    let h = length (shape g .header (length (flat rs))) in
+    reads f e (imageFrom (shape g) (flat rs) (shape g .closing) x) g h rs
+    (accepted-reading f e (imageFrom (shape g) (flat rs) (shape g .closing) x) g h rs (made-reading f e g rs (shape g .closing) x k (laws g .closing-made) fs lw cm le))) in
+    let fitsWhole : length memory ≤ limit = omega (arith, length-replicate {A = ℕ} (length out - m) 0xFF, t .fits, t .long) in
+    let fitsFront : length (take m memory) ≤ limit = rw (t .padding, take-at image pad m (sym (t .long))) (omega (arith, t .fits)) in
+    (rw whole (read pad (rw whole at fitsWhole)), rw front (read [] (rw front at fitsFront)))
