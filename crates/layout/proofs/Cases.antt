@@ -10,7 +10,6 @@ use Rattle.layout.specs.declared.Length.the-variants.{Reads}
 use Rattle.layout.specs.declared.Reading.the-variants.{Plain, Addresses, Numbered, Tests, Identified, Batched}
 use Rattle.layout.specs.declared.Entry.{Entry}
 use Rattle.layout.specs.declared.Field.{Field}
-use Rattle.layout.specs.declared.Walk.{Walk}
 use Rattle.layout.specs.declared.Checked.{Checked}
 use Rattle.layout.specs.declared.Checked.the-variants.{Accepted, Refused}
 use Rattle.layout.specs.declared.Lookup.{Lookup}
@@ -19,7 +18,6 @@ use Rattle.layout.specs.declared.Located.{Located}
 use Rattle.layout.specs.declared.Located.the-variants.{At, Nowhere}
 use Rattle.layout.specs.declared.Made.{Made}
 use Rattle.layout.specs.declared.Made.the-variants.{Wrote, Unwritten}
-use Rattle.layout.specs.declared.Stepped.{Stepped}
 use Rattle.layout.specs.Bytes.{all, oneOf, sameBytes, part, highFirst, place, stringNumber, partAt, refusal}
 use Rattle.layout.specs.Shape.{next}
 use Rattle.layout.specs.Fboss.{fboss, fbossOpened, fbossHead, dateRule, fbossRule, fbossReading}
@@ -28,7 +26,7 @@ use Rattle.layout.specs.Tiny.{tiny, tinyOpened, tinyHead, tinyLength, ti
 use Rattle.layout.specs.Editions.{chosen, sinceIn, names, kind}
 use Rattle.layout.specs.Walk.{Raw, Content, content, walks, walk}
 use Rattle.layout.specs.Read.{sealed, seenBefore, readerRule, fault, judge, complete, Read, accepted, refused, readAs, readImage}
-use Rattle.layout.specs.Calls.{Listed, entryOf, entriesOf, checkImage, listEntries, nth, entryAt, bytesAt, valueAt, stepWalk, stringIn, poolString, stringAt}
+use Rattle.layout.specs.Calls.{Listed, Step, entryOf, entriesOf, checkImage, listEntries, nth, entryAt, bytesAt, valueAt, stepFrom, stringIn, poolString, stringAt}
 use Rattle.layout.specs.Write.{writerRule, fieldFault, judgeFields, entryBytes, entriesBytes, imageOf, put, writeAs, writeImage, Outcome}
 use Rattle.layout.specs.Edit.{revalued, editedBytes, editRule, mayEdit, editEntry}
 
@@ -52,8 +50,8 @@ pub data Case : Type 0 where
   gives : (format edition : ℕ) (image : List ℕ) (n : ℕ) (answer : List ℕ) → Case
   -- a string of the pool
   strings : (format edition : ℕ) (image : List ℕ) (number : ℕ) (answer : Located) → Case
-  -- a walk's step, and the walk that it hands back
-  steps : (walk : Walk) (image : List ℕ) (answer : Lookup) (back : Walk) → Case
+  -- a walk's step, and the entry number of the walk that it hands back
+  steps : (format edition n : ℕ) (image : List ℕ) (answer : Lookup) (back : ℕ) → Case
   -- a write and an edit: the answer, and the output
   writes : (format edition : ℕ) (fields : List Field) (values out : List ℕ) (answer : Made) (memory : List ℕ) → Case
   edits : (format edition : ℕ) (image : List ℕ) (n : ℕ) (value out : List ℕ) (answer : Made) (memory : List ℕ) → Case
@@ -80,7 +78,7 @@ pub data Answer : Type 0 where
   looked-up : Lookup → Answer
   bytes : List ℕ → Answer
   located : Located → Answer
-  stepped : Stepped → Answer
+  stepped : Step → Answer
   outcome : Outcome → Answer
   contents : List Content → Answer
 
@@ -96,7 +94,7 @@ given (refusesList f e image answer) = listed (listEntries f e image [])
 given (finds f e image n answer) = looked-up (entryAt f e image n)
 given (gives f e image n answer) = bytes (bytesAt image (valueAt f e image n))
 given (strings f e image n answer) = located (stringAt f e image n)
-given (steps w image answer back) = stepped (stepWalk w image)
+given (steps f e n image answer back) = stepped (stepFrom f e n image)
 given (writes f e fields values out answer memory) = outcome (writeImage f e fields values out)
 given (edits f e image n value out answer memory) = outcome (editEntry f e image n value out)
 given (rounds f e fields values room answer) = contents (contentsRead (readImage f e (writeImage f e fields values (replicate room 0) .memory)))
@@ -113,7 +111,7 @@ wanted (refusesList f e image answer) = listed (record { answer = answer; record
 wanted (finds f e image n answer) = looked-up answer
 wanted (gives f e image n answer) = bytes answer
 wanted (strings f e image n answer) = located answer
-wanted (steps w image answer back) = stepped (record { answer = answer; next = back })
+wanted (steps f e n image answer back) = stepped (record { answer = answer; next = back })
 wanted (writes f e fields values out answer memory) = outcome (record { answer = answer; memory = memory })
 wanted (edits f e image n value out answer memory) = outcome (record { answer = answer; memory = memory })
 wanted (rounds f e fields values room answer) = contents answer
@@ -283,8 +281,8 @@ cases =
     ∷ strings 3 9 (0x56 ∷ []) 0 (Nowhere (refusal 1 0))
     ∷ strings 1 9 [] 0 (Nowhere (refusal 16 0))
     -- a walk: a step that is an entry moves it, a refused step does not
-    ∷ steps (record { format = 2; edition = 2; entry = 0 }) sku (Found (record { code = 1; kind = 513; place = place 0; key = partAt 2 3; value = partAt 6 2; reading = Plain })) (record { format = 2; edition = 2; entry = 1 })
-    ∷ steps (record { format = 2; edition = 2; entry = 1 }) sku (Missing (refusal 13 0)) (record { format = 2; edition = 2; entry = 1 })
+    ∷ steps 2 2 0 sku (Found (record { code = 1; kind = 513; place = place 0; key = partAt 2 3; value = partAt 6 2; reading = Plain })) 1
+    ∷ steps 2 2 1 sku (Missing (refusal 13 0)) 1
     -- writes of no fields: FBOSS 11, VPD 00, Tiny 56 02 04 6F
     ∷ writes 1 1 [] [] (7 ∷ []) (Unwritten (refusal 11 0)) (7 ∷ [])
     ∷ writes 2 1 [] [] (7 ∷ 7 ∷ []) (Wrote 1) (0x00 ∷ 0xFF ∷ [])
@@ -347,5 +345,5 @@ cases =
     ∷ []
 
 pub every-case : map given cases ≡ map wanted cases
-unfolding check16Of check8Of checkOf byteIn singleBit all oneOf sameBytes part highFirst next fboss fbossOpened fbossHead dateRule fbossRule fbossReading vpd groups vpdHead shortest vpdReaderKey vpdWriterKey vpdRule vpdTwice tiny tinyOpened tinyHead tinyLength tinyRule tinyReading chosen sinceIn names kind content walks walk sealed seenBefore readerRule fault judge complete readAs readImage entryOf entriesOf checkImage listEntries nth entryAt valueAt stepWalk stringIn poolString stringAt writerRule fieldFault judgeFields entryBytes entriesBytes imageOf put writeAs writeImage revalued editedBytes editRule mayEdit editEntry
+unfolding check16Of check8Of checkOf byteIn singleBit all oneOf sameBytes part highFirst next fboss fbossOpened fbossHead dateRule fbossRule fbossReading vpd groups vpdHead shortest vpdReaderKey vpdWriterKey vpdRule vpdTwice tiny tinyOpened tinyHead tinyLength tinyRule tinyReading chosen sinceIn names kind content walks walk sealed seenBefore readerRule fault judge complete readAs readImage entryOf entriesOf checkImage listEntries nth entryAt valueAt stepFrom stringIn poolString stringAt writerRule fieldFault judgeFields entryBytes entriesBytes imageOf put writeAs writeImage revalued editedBytes editRule mayEdit editEntry
 every-case = refl

@@ -9,7 +9,6 @@ use Rattle.layout.specs.declared.Part.{Part}
 use Rattle.layout.specs.declared.Reading.{Reading}
 use Rattle.layout.specs.declared.Reading.the-variants.{Plain, Text, Number, Addresses, Numbered, Tests, Identified, Batched}
 use Rattle.layout.specs.declared.Entry.{Entry}
-use Rattle.layout.specs.declared.Walk.{Walk}
 use Rattle.layout.specs.declared.Refusal.{Refusal}
 use Rattle.layout.specs.declared.Checked.{Checked}
 use Rattle.layout.specs.declared.Checked.the-variants.{Accepted, Refused}
@@ -17,7 +16,6 @@ use Rattle.layout.specs.declared.Lookup.{Lookup}
 use Rattle.layout.specs.declared.Lookup.the-variants.{Found, Missing}
 use Rattle.layout.specs.declared.Located.{Located}
 use Rattle.layout.specs.declared.Located.the-variants.{At, Nowhere}
-use Rattle.layout.specs.declared.Stepped.{Stepped}
 use Rattle.layout.specs.Bytes.{if, part, place, partAt, refusal}
 use Rattle.layout.specs.Shape.{Shape}
 use Rattle.layout.specs.Editions.{shape, names, kind}
@@ -124,15 +122,19 @@ valueAt f e img n = valueOf (entryAt f e img n)
 
 -- ---- the walk
 
-abbrev pub moved : Walk → Lookup → Walk
-moved w (Found x) = record { format = w .format; edition = w .edition; entry = w .entry + 1 }
-moved w (Missing r) = w
+-- the entry number of the walk that a step hands back: moved on by one, or as it was where the step is refused
+abbrev pub moved : ℕ → Lookup → ℕ
+moved n (Found x) = n + 1
+moved n (Missing r) = n
 
--- a step answers as entry n, and hands the walk back moved on by one; a refused step hands it back unmoved
-unfoldable pub stepWalk : Walk → List ℕ → Stepped
-stepWalk w img =
-    let a : Lookup = entryAt (w .format) (w .edition) img (w .entry) in
-    record { answer = a; next = moved w a }
+-- the answer of a step, and the entry number of the walk that is handed back
+pub record Step : Type 0 where
+  pub answer : Lookup
+  pub next : ℕ
+
+-- a step of a walk that holds this format, this edition and this entry number answers as entry n on the image lent to it
+unfoldable pub stepFrom : ℕ → ℕ → ℕ → List ℕ → Step
+stepFrom f e n img = record { answer = entryAt f e img n; next = moved n (entryAt f e img n) }
 
 -- ---- Tiny strings
 

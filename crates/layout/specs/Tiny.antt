@@ -16,7 +16,7 @@ use Rattle.layout.specs.declared.Opened.the-variants.{Room, Closed}
 use Rattle.layout.specs.declared.Identity.{Identity}
 use Rattle.layout.specs.declared.Reading.{Reading}
 use Rattle.layout.specs.declared.Reading.the-variants.{Plain, Addresses, Numbered, Tests, Identified, Batched}
-use Rattle.layout.specs.Bytes.{if, between, highFirst, refusal, stringNumber}
+use Rattle.layout.specs.Bytes.{if, between, part, highFirst, refusal, stringNumber}
 use Rattle.layout.specs.Shape.{Shape, naming, byteLength, bareHead}
 
 -- 56h, 02h, the total length L; the entries fill bytes 3 to L-2
@@ -78,7 +78,7 @@ unfoldable pub tinyReading : ℕ → List ℕ → Reading
 tinyReading c v =
     if (eqb c 0x10) (λ _. Numbered (stringNumber (getD v 0 0)))
     (λ _. if (eqb c 0x11) (λ _. Tests (getD v 0 0) (passed (getD v 0 0)))
-    (λ _. if (eqb c 0x60) (λ _. Addresses (highFirst 0 v) 1)
+    (λ _. if (eqb c 0x60) (λ _. Addresses (highFirst 0 (part 0 6 v)) 1)
     (λ _. if (between 0x61 0x62 c) (λ _. Identified (identity v))
     (λ _. if (between 0x80 0x81 c) (λ _. Batched (identity v) (batch v))
     (λ _. Plain)))))

@@ -72,13 +72,6 @@ pub struct Field {
     pub value: Part,
 }
 
-// 01's term "walk".
-pub struct Walk {
-    pub format: u32,
-    pub edition: u32,
-    pub entry: usize,
-}
-
 // A number of 01's table, and the place that goes with it.
 pub struct Refusal {
     pub number: u32,
@@ -107,12 +100,6 @@ pub enum Located {
 pub enum Made {
     Wrote(usize),
     Unwritten(Refusal),
-}
-
-// The answer of a walk's step, with the walk that is handed back.
-pub struct Stepped {
-    pub answer: Lookup,
-    pub next: Walk,
 }
 
 // What an image's header says: its entries start at the first place, and their room ends before the second.
