@@ -96,6 +96,7 @@ fboss-laws =
       head-complete = λ front key t c o.
           rw (o .is, o .keyless, lt-ltb 0 (length (c ∷ t)) (omega arith), ne-eqb c 0 (o .not0), ne-eqb c 255 (o .not255), ne-eqb c 250 (o .not250));
       head-shut = λ c s h l e. false-true l;
+      head-ends = λ b c s e. e;
       vlen-sound = λ s h v j l e. rw e at (byte-goes fbossGrammar s h (λ v. refl));
       vlen-complete = λ a lens t h v e says. rw says (byte-read a t h v e);
       opening-made = λ e c key named l k.

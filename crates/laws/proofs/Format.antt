@@ -65,6 +65,8 @@ pub record Laws (S : Shape) (G : Grammar) : Type 1 where
   pub head-complete : (front key t : List ℕ) (c : ℕ) → G .Opening front c key → S .head false (front ++ t) ≡ Opens (headFrom front c key)
   -- after an entry that none may follow nothing opens
   pub head-shut : (c : ℕ) (s : List ℕ) (h : Head) → S .last c ≡ true → S .head true s ≡ Opens h → ⊥
+  -- entries end there whatever came before
+  pub head-ends : (b c : Bool) (s : List ℕ) → S .head b s ≡ Ends → S .head c s ≡ Ends
   -- lengths
   pub vlen-sound : (s : List ℕ) (h : Head) (v j : ℕ) → h .at ≤ length s → S .vlen h s ≡ Reads v j → Goes G s h v j
   pub vlen-complete : (a lens t : List ℕ) (h : Head) (v : ℕ) → length a ≡ h .at → G .Says (h .code) lens v →

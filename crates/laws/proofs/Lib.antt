@@ -10,6 +10,7 @@ pub mod Judging
 pub mod LengthBytes
 pub mod Lists
 pub mod OneByte
+pub mod Passes
 pub mod Records
 pub mod Tiny
 pub mod Vpd

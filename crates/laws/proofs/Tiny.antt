@@ -104,6 +104,7 @@ tiny-laws =
       head-sound = λ b s h e. (rw e at (heads b s)) .1;
       head-complete = λ front key t c o. rw (o .is, o .keyless, lt-ltb 0 (length (c ∷ t)) (omega arith), ne-eqb c 0x00 (o .not0));
       head-shut = λ c s h l e. false-true (sym ((rw e at (heads true s)) .0));
+      head-ends = λ b c s e. rw (rw e at (heads b s)) refl;
       vlen-sound = λ s h v j l e. rw e at (goes s h);
       vlen-complete = reads;
       opening-made = λ e c key named l k. rw (k refl) (record { is = refl; keyless = refl; not0 = λ q. false-true (rw q at named) });

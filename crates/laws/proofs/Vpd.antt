@@ -123,6 +123,7 @@ vpd-laws =
       head-sound = λ b s h e. rw e at (head-reads s);
       head-complete = head-made;
       head-shut = λ c s h e o. false≢true e;
+      head-ends = λ b c s e. e;
       vlen-sound = λ s h v j le e.
           let m = groups-sound 4 0 (h .at) s v j e in
           record { lens = m .bytes; rest = m .rest; joined = m .joined; says = m .says; ends = m .ends };

@@ -120,3 +120,7 @@ module _ {S : Shape} {G : Grammar} (L : Laws S G) where
   pub walk-decode : (p : ℕ) (s : List ℕ) (rs : List Raw) (q : ℕ) → walk S false p s ≡ done rs q → Decoded S G false p s rs q
   unfolding walk
   walk-decode p s rs q e = decode (suc (length s)) false p s rs q (λ t f n. refl) e
+
+  -- where a walk ended, entries end whatever came before
+  pub decoded-ends : {b : Bool} {p : ℕ} {s : List ℕ} {rs : List Raw} {q : ℕ} (d : Decoded S G b p s rs q) → EndsAt S (d .rest)
+  decoded-ends d c = L .head-ends (d .flag) c (d .rest) (d .ended)

@@ -12,8 +12,7 @@ use Rattle.layout.specs.declared.Format.the-variants.{Fboss, Vpd, Tiny}
 use Rattle.layout.specs.Shape.{Shape, Label}
 use Rattle.layout.specs.Editions.{shape, names}
 use Rattle.layout.specs.Walk.{Content, labelOf}
-use Rattle.layout.specs.Read.{limit, same, readerRule, complete}
-use Rattle.layout.specs.Write.{contentCodes}
+use Rattle.layout.specs.Read.{limit, same, readerRule}
 
 -- how a format writes an entry, and what stands between the last entry and the check
 pub record Grammar : Type 1 where
@@ -114,6 +113,11 @@ pub data Each {A : Type 0} (P : A → Type 0) : List A → Type 0 where
   none : Each P []
   also : {x : A} {xs : List A} → P x → Each P xs → Each P (x ∷ xs)
 
+-- an entry of this code is among these
+pub data Among (code : ℕ) : List Content → Type 0 where
+  first : {c : Content} {cs : List Content} → c .code ≡ code → Among code (c ∷ cs)
+  later : {c : Content} {cs : List Content} → Among code cs → Among code (c ∷ cs)
+
 -- each entry meets its rule and comes once, where those seen came before
 pub data Lawful (S : Shape) (e : ℕ) : List Label → List Content → Type 0 where
   noMore : {seen : List Label} → Lawful S e seen []
@@ -131,5 +135,5 @@ pub record Published (f : Format) (e : ℕ) (image : List ℕ) (cs : List Conten
   pub closes : grammar f .Closing closing
   pub made : Entries (grammar f) (shape f) false entries cs
   pub lawful : Lawful (shape f) e [] cs
-  pub required : complete (shape f .required) (contentCodes cs) ≡ true
+  pub required : Each (λ code. Among code cs) (shape f .required)
   pub short : length image ≤ limit

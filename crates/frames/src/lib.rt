@@ -1,0 +1,256 @@
+// What a call's format and edition come to, and what stands at a place of an image, for any format.
+ghost use mathlib.Core.Path.{_≡_};
+ghost use Prim.Native.Nat.{_-_};
+ghost use Rattle.layout.specs.Bytes.{part};
+ghost use Rattle.layout.specs.Shape.{next};
+ghost use Rattle.layout.specs.Editions.{shape, withEdition, chosen, names, kind};
+ghost use Rattle.layout.specs.Read.{sealed};
+use layout::Chosen;
+use layout::Format;
+use layout::Frame;
+use layout::Head;
+use layout::Headed;
+use layout::Length;
+use layout::Next;
+use layout::Opened;
+use layout::Reading;
+
+// A format, where the edition is known.
+fn with_edition(edition: u32, format: Format) -> Chosen
+    ensures { λ r. ⌜ r ≡ withEdition edition format ⌝ }
+{
+    if edition < 1 {
+        return Chosen::Unknown(1);
+    }
+    if 2 < edition {
+        return Chosen::Unknown(1);
+    }
+    Chosen::Known(format)
+}
+
+// The format and edition of a call: 16, then 1.
+pub fn choose(format: u32, edition: u32) -> Chosen
+    ensures { λ r. ⌜ r ≡ chosen format edition ⌝ }
+{
+    if format == 1 {
+        return with_edition(edition, Format::Fboss);
+    }
+    if format == 2 {
+        return with_edition(edition, Format::Vpd);
+    }
+    if format == 3 {
+        return with_edition(edition, Format::Tiny);
+    }
+    Chosen::Unknown(16)
+}
+
+// Whether the edition names the code.
+pub fn is_named(format: Format, edition: u32, code: u32) -> bool
+    ensures { λ r. ⌜ r ≡ names (shape format) edition code ⌝ }
+{
+    match format {
+        Format::Fboss => match code {
+            1..=16 => 1 <= edition,
+            17..=20 => 2 <= edition,
+            _ => false,
+        },
+        Format::Vpd => match code {
+            0x01 => 1 <= edition,
+            0xFE => 2 <= edition,
+            _ => false,
+        },
+        Format::Tiny => match code {
+            0x01 => 1 <= edition,
+            0x10..=0x11 => 1 <= edition,
+            0x60..=0x62 => 1 <= edition,
+            0x80..=0x81 => 2 <= edition,
+            _ => false,
+        },
+    }
+}
+
+// The format's number times 256.
+fn kind_base(format: Format) -> u32 {
+    match format {
+        Format::Fboss => 256,
+        Format::Vpd => 512,
+        Format::Tiny => 768,
+    }
+}
+
+// The kind of an entry of this code.
+pub fn kind_of(format: Format, edition: u32, code: u32) -> u32
+    ensures { λ r. ⌜ r ≡ kind (shape format) edition code ⌝ }
+{
+    if is_named(format, edition, code) {
+        return kind_base(format) + code;
+    }
+    0
+}
+
+// Whether no entry may follow one of this code.
+pub fn is_last(format: Format, code: u32) -> bool
+    ensures { λ r. ⌜ r ≡ shape format .last code ⌝ }
+{
+    match format {
+        Format::Fboss => false,
+        Format::Vpd => false,
+        Format::Tiny => code == 0x01,
+    }
+}
+
+// Where the entries of an image are.
+pub fn open_image(format: Format, image: &[u8]) -> Opened
+    ensures { λ r. ⌜ r ≡ shape format .opened (now (image .entry)) ⌝ }
+{
+    match format {
+        Format::Fboss => fboss::fboss_opened(image),
+        Format::Vpd => Opened::Room(0, image.len()),
+        Format::Tiny => tiny::tiny_opened(image),
+    }
+}
+
+// The n bytes of s from `at` on, or as many of them as there are.
+pub fn part_of(s: &[u8], at: usize, n: usize) -> &[u8]
+    ensures { λ r. ⌜ now r ≡ part at n (now (s .entry)) ⌝ }
+{
+    if s.len() <= at {
+        return &s[..0];
+    }
+    if s.len() - at < n {
+        return &s[at..];
+    }
+    let end = at + n;
+    &s[at..end]
+}
+
+fn head_of(format: Format, shut: bool, s: &[u8]) -> Headed
+    ensures { λ r. ⌜ r ≡ shape format .head shut (now (s .entry)) ⌝ }
+{
+    match format {
+        Format::Fboss => fboss::fboss_head(s),
+        Format::Vpd => vpd::vpd_head(s),
+        Format::Tiny => tiny::tiny_head(shut, s),
+    }
+}
+
+fn length_of(format: Format, s: &[u8], h: Head) -> Length
+    ensures { λ r. ⌜ r ≡ shape format .vlen h (now (s .entry)) ⌝ }
+{
+    match format {
+        Format::Fboss => parts::byte_length(s, h),
+        Format::Vpd => {
+            let at = h.at;
+            vpd::group_length(s, at)
+        }
+        Format::Tiny => tiny::tiny_length(s, h),
+    }
+}
+
+// The frame at the front of s. `shut`: the entry before was one that none may follow.
+fn frame_of(format: Format, shut: bool, s: &[u8]) -> Next
+    ensures { λ r. ⌜ r ≡ next (shape format) shut (now (s .entry)) ⌝ }
+{
+    let x = head_of(format, shut, s);
+    match x {
+        Headed::Wrong(k) => Next::Broken(k),
+        Headed::Ends => Next::Ended,
+        Headed::Opens(h) => {
+            let l = length_of(format, s, h);
+            match l {
+                Length::Fails(k) => Next::Broken(k),
+                Length::Reads(v, j) => {
+                    if v <= s.len() - j {
+                        Next::Framed(Frame {
+                            code: h.code,
+                            key: h.key,
+                            klen: h.klen,
+                            at: h.at,
+                            val: j,
+                            vlen: v,
+                            size: j + v,
+                        })
+                    } else {
+                        Next::Broken(5)
+                    }
+                }
+            }
+        }
+    }
+}
+
+// What stands at p, in a room that ends before `end`.
+pub fn next_frame(format: Format, shut: bool, image: &[u8], p: usize, end: usize) -> Next
+    ensures { λ r. ⌜ r ≡ next (shape format) shut (part p (end - p) (now (image .entry))) ⌝ }
+{
+    if end <= p {
+        return frame_of(format, shut, part_of(image, p, 0));
+    }
+    frame_of(format, shut, part_of(image, p, end - p))
+}
+
+// Whether the stored check is right, where the entries end at p.
+pub fn is_sealed(format: Format, image: &[u8], p: usize) -> bool
+    ensures { λ r. ⌜ r ≡ sealed (shape format) (now (image .entry)) p ⌝ }
+{
+    match format {
+        Format::Fboss => fboss::fboss_sealed(image, p),
+        Format::Vpd => true,
+        Format::Tiny => tiny::tiny_sealed(image, p),
+    }
+}
+
+// The reader's rule on the key of a named entry.
+pub fn reader_key(format: Format, code: u32, key: &[u8]) -> bool
+    ensures { λ r. ⌜ r ≡ shape format .readerKey code (now (key .entry)) ⌝ }
+{
+    match format {
+        Format::Fboss => true,
+        Format::Vpd => vpd::vpd_reader_key(code, key),
+        Format::Tiny => true,
+    }
+}
+
+// The writer's rule on the key of a field.
+pub fn writer_key(format: Format, code: u32, key: &[u8]) -> bool
+    ensures { λ r. ⌜ r ≡ shape format .writerKey code (now (key .entry)) ⌝ }
+{
+    match format {
+        Format::Fboss => true,
+        Format::Vpd => vpd::vpd_writer_key(code, key),
+        Format::Tiny => true,
+    }
+}
+
+// The rule on the value of a named entry.
+pub fn value_rule(format: Format, code: u32, v: &[u8]) -> bool
+    ensures { λ r. ⌜ r ≡ shape format .valueRule code (now (v .entry)) ⌝ }
+{
+    match format {
+        Format::Fboss => fboss::fboss_rule(code, v),
+        Format::Vpd => vpd::vpd_rule(code, v),
+        Format::Tiny => tiny::tiny_rule(code, v),
+    }
+}
+
+// The rule on the length of a value that is written.
+pub fn length_rule(format: Format, code: u32, n: usize) -> bool
+    ensures { λ r. ⌜ r ≡ shape format .lengthRule code n ⌝ }
+{
+    match format {
+        Format::Fboss => n < 256,
+        Format::Vpd => true,
+        Format::Tiny => tiny::tiny_takes(code, n),
+    }
+}
+
+// The reading of a named entry's value.
+pub fn reading_of(format: Format, code: u32, v: &[u8]) -> Reading
+    ensures { λ r. ⌜ r ≡ shape format .reading code (now (v .entry)) ⌝ }
+{
+    match format {
+        Format::Fboss => fboss::fboss_reading(code, v),
+        Format::Vpd => Reading::Plain,
+        Format::Tiny => tiny::tiny_reading(code, v),
+    }
+}

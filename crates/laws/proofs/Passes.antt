@@ -1,0 +1,141 @@
+-- A pass over the entries of a walk that came to its end: where it stands, and how it goes on. The loops of the readers go by this.
+-- Assumes nothing.
+use Prim.Native.Nat.{ℕ, zero, suc, _+_, _-_, _≤_, _<_}
+use mathlib.Core.Path.{_≡_, refl, ap, sym, _∙_}
+use mathlib.Core.List.{List, [], _∷_, _++_, append-assoc, append-nil}
+use mathlib.Core.Bool.{Bool, true, false}
+use native.Mathlib.Omega.{arith}
+use native.Mathlib.Nat.{add-zero}
+use lib.ListN.{length, take, drop, length-append, length-drop, length-take}
+use lib.Seq.{take-at, drop-at, drop-drop, take-nil}
+use Rattle.layout.specs.declared.Frame.{Frame}
+use Rattle.layout.specs.declared.Headed.the-variants.{Ends}
+use Rattle.layout.specs.declared.Next.the-variants.{Framed, Ended, Broken}
+use Rattle.layout.specs.Bytes.{part}
+use Rattle.layout.specs.Shape.{Shape, onHead, next}
+use Rattle.layout.specs.Walk.{Raw, flat}
+use Rattle.laws.specs.Grammar.{Grammar}
+use Rattle.laws.proofs.Format.{Laws}
+use Rattle.laws.proofs.Frames.{rawOf, IsRaw, raw-size, raw-reads}
+use Rattle.laws.proofs.Walking.{Frames, EndsAt}
+
+drop-take : (n m : ℕ) (l : List ℕ) → drop n (take m l) ≡ take (m - n) (drop n l)
+drop-take zero m l = ap (λ (k : ℕ). take k l) (let q : m ≡ m - 0 = omega arith in q)
+drop-take (suc n) zero [] = sym (take-nil (0 - suc n))
+drop-take (suc n) (suc m) [] = sym (take-nil (suc m - suc n))
+drop-take (suc n) zero (x ∷ l) = ap (λ (k : ℕ). take k (drop n l)) (let q : 0 ≡ 0 - suc n = omega arith in q)
+drop-take (suc n) (suc m) (x ∷ l) = drop-take n m l ∙ ap (λ (k : ℕ). take k (drop n l)) (let q : m - n ≡ suc m - suc n = omega arith in q)
+
+-- the room that is left when n of its bytes are passed
+pub part-on : (image : List ℕ) (p n end : ℕ) → drop n (part p (end - p) image) ≡ part (p + n) (end - (p + n)) image
+unfolding part
+part-on image p n end =
+    drop-take n (end - p) (drop p image)
+    ∙ rw (drop-drop n p image) (ap (λ (k : ℕ). take k (drop (p + n) image)) (let q : end - p - n ≡ end - (p + n) = omega arith in q))
+
+-- a part is no longer than was asked
+pub part-most : (image : List ℕ) (p n : ℕ) → length (part p n image) ≤ n
+unfolding part
+part-most image p n = omega (arith, length-take n (drop p image))
+
+-- a pass over `all` entries stands at p: some are passed, the others are to do
+pub record Passing (S : Shape) (G : Grammar) (image : List ℕ) (start end : ℕ) (all : List Raw) (p : ℕ) (shut : Bool) : Type 0 where
+  pub past : List Raw
+  pub todo : List Raw
+  pub joined : all ≡ past ++ todo
+  pub place : p ≡ start + length (flat past)
+  pub rest : List ℕ
+  pub room : part p (end - p) image ≡ flat todo ++ rest
+  pub ends : EndsAt S rest
+  pub frames : Frames S G shut todo
+  pub bound : p ≤ end
+
+-- the entries laid flat, one more
+pub flat-snoc : (rs : List Raw) (r : Raw) → flat (rs ++ (r ∷ [])) ≡ flat rs ++ r .bytes
+flat-snoc [] r = append-nil (r .bytes)
+flat-snoc (x ∷ rs) r = ap (λ (l : List ℕ). x .bytes ++ l) (flat-snoc rs r) ∙ sym (append-assoc (x .bytes) (flat rs) (r .bytes))
+
+module _ {S : Shape} {G : Grammar} (L : Laws S G) (image : List ℕ) (start end : ℕ) (all : List Raw) where
+  -- a pass begins at the first entry
+  pub pass-begins : (rest : List ℕ) → part start (end - start) image ≡ flat all ++ rest → EndsAt S rest → Frames S G false all → start ≤ end →
+      Passing S G image start end all start false
+  pass-begins rest room ends frames le =
+      record { past = []; todo = all; joined = refl; place = sym (add-zero start); rest = rest; room = room; ends = ends; frames = frames; bound = le }
+
+  -- how a pass goes on after a frame: the next entry to do is that frame's
+  pub record Onward (p : ℕ) (shut : Bool) (f : Frame) (was : Passing S G image start end all p shut) : Type 0 where
+    pub raw : Raw
+    pub todo : List Raw
+    pub heads : was .todo ≡ raw ∷ todo
+    pub isRaw : IsRaw G raw
+    pub frame : raw .frame ≡ f
+    pub on : Passing S G image start end all (p + f .size) (S .last (f .code))
+    pub pastOn : on .past ≡ was .past ++ (raw ∷ [])
+    pub todoOn : on .todo ≡ todo
+
+  ended-todo : (p : ℕ) (shut : Bool) (w : Passing S G image start end all p shut) (f : Frame) → w .todo ≡ [] → next S shut (part p (end - p) image) ≡ Framed f → ⊥
+  unfolding next
+  ended-todo p shut w f e n =
+      let z : part p (end - p) image ≡ w .rest = w .room ∙ ap (λ (l : List Raw). flat l ++ w .rest) e in
+      let q : onHead (S .head shut (w .rest)) S (w .rest) ≡ Framed f = rw z at n in
+      let q′ : Ended ≡ Framed f = rw (w .ends shut) at q in
+      let c : _≡_ {A = ℕ} 0 1 = cc in
+      omega arith
+
+  onward : (p : ℕ) (shut : Bool) (f : Frame) (w : Passing S G image start end all p shut) (todo : List Raw) → w .todo ≡ todo → Frames S G shut todo →
+      next S shut (part p (end - p) image) ≡ Framed f → Onward p shut f w
+  onward p shut f w [] e fs n = absurd (ended-todo p shut w f e n)
+  onward p shut f w (r ∷ rs) e fs n =
+      let room : part p (end - p) image ≡ r .bytes ++ (flat rs ++ w .rest) = w .room ∙ ap (λ (l : List Raw). flat l ++ w .rest) e ∙ append-assoc (r .bytes) (flat rs) (w .rest) in
+      let read : next S shut (part p (end - p) image) ≡ Framed (r .frame) = rw (room, fs .0) (raw-reads L r (flat rs ++ w .rest) (fs .1)) in
+      let same : r .frame ≡ f = cc in
+      let size : length (r .bytes) ≡ f .size = raw-size (fs .1) ∙ ap (λ (g : Frame). g .size) same in
+      let flats : flat (w .past ++ (r ∷ [])) ≡ flat (w .past) ++ r .bytes = flat-snoc (w .past) r in
+      let long : length (part p (end - p) image) ≡ length (r .bytes) + length (flat rs ++ w .rest) = ap length room ∙ length-append (r .bytes) (flat rs ++ w .rest) in
+      record {
+        raw = r;
+        todo = rs;
+        heads = e;
+        isRaw = fs .1;
+        frame = same;
+        on =
+            record {
+              past = w .past ++ (r ∷ []);
+              todo = rs;
+              joined = w .joined ∙ ap (λ (l : List Raw). w .past ++ l) e ∙ sym (append-assoc (w .past) (r ∷ []) rs);
+              place = omega (arith, w .place, ap length flats, length-append (flat (w .past)) (r .bytes));
+              rest = w .rest;
+              room = sym (part-on image p (f .size) end) ∙ ap (drop (f .size)) room ∙ drop-at (r .bytes) (flat rs ++ w .rest) (f .size) size;
+              ends = w .ends;
+              frames = rw (← same) (fs .2);
+              bound = omega (arith, part-most image p (end - p), w .bound);
+            };
+        pastOn = refl;
+        todoOn = refl;
+      }
+
+  -- a frame that is read is the next entry's
+  pub pass-on : (p : ℕ) (shut : Bool) (f : Frame) (w : Passing S G image start end all p shut) → next S shut (part p (end - p) image) ≡ Framed f → Onward p shut f w
+  pass-on p shut f w n = onward p shut f w (w .todo) refl (w .frames) n
+
+  -- where no frame is read, nothing is left to do, and the entries end there
+  last-todo : (p : ℕ) (shut : Bool) (w : Passing S G image start end all p shut) (todo : List Raw) → w .todo ≡ todo → Frames S G shut todo →
+      ((f : Frame) → next S shut (part p (end - p) image) ≡ Framed f → ⊥) → todo ≡ []
+  last-todo p shut w [] e fs n = refl
+  last-todo p shut w (r ∷ rs) e fs n =
+      let room : part p (end - p) image ≡ r .bytes ++ (flat rs ++ w .rest) = w .room ∙ ap (λ (l : List Raw). flat l ++ w .rest) e ∙ append-assoc (r .bytes) (flat rs) (w .rest) in
+      absurd (n (r .frame) (rw (room, fs .0) (raw-reads L r (flat rs ++ w .rest) (fs .1))))
+
+  pub pass-ends : (p : ℕ) (shut : Bool) (w : Passing S G image start end all p shut) → next S shut (part p (end - p) image) ≡ Ended → w .todo ≡ []
+  pass-ends p shut w n = last-todo p shut w (w .todo) refl (w .frames) (λ f q. let z : _≡_ {A = ℕ} 0 1 = cc in omega arith)
+
+  -- nothing is broken on the way
+  pub pass-unbroken : (p : ℕ) (shut : Bool) (k : ℕ) (w : Passing S G image start end all p shut) → next S shut (part p (end - p) image) ≡ Broken k → ⊥
+  unfolding next
+  pass-unbroken p shut k w n =
+      let e : w .todo ≡ [] = last-todo p shut w (w .todo) refl (w .frames) (λ f q. let z : _≡_ {A = ℕ} 0 1 = cc in omega arith) in
+      let z : part p (end - p) image ≡ w .rest = w .room ∙ ap (λ (l : List Raw). flat l ++ w .rest) e in
+      let q : onHead (S .head shut (w .rest)) S (w .rest) ≡ Broken k = rw z at n in
+      let q′ : Ended ≡ Broken k = rw (w .ends shut) at q in
+      let c : _≡_ {A = ℕ} 0 1 = cc in
+      omega arith

@@ -1,0 +1,192 @@
+// Tiny EEPROM version 2: its header, what opens an entry, lengths, rules and readings, and its check.
+ghost use mathlib.Core.Path.{_≡_};
+ghost use lib.ListN.{getD};
+ghost use Rattle.layout.specs.Tiny.{tiny, tinyOpened, tinyHead, tinyLength, tinyTakes, revisionRule, batch, tinyRule, passed, identity, tinyReading};
+ghost use Rattle.layout.specs.Read.{sealed};
+use layout::Head;
+use layout::Headed;
+use layout::Identity;
+use layout::Length;
+use layout::Opened;
+use layout::Place;
+use layout::Reading;
+use layout::Refusal;
+use layout::StringNumber;
+
+fn wide(x: u8) -> usize
+    ensures { λ r. ⌜ r ≡ x ⌝ }
+{
+    x as usize
+}
+
+fn code_of(x: u8) -> u32
+    ensures { λ r. ⌜ r ≡ x ⌝ }
+{
+    x as u32
+}
+
+// The byte at i, or 0 where there is none.
+fn byte_at(v: &[u8], i: usize) -> u8
+    ensures { λ r. ⌜ r ≡ getD (now (v .entry)) i 0 ⌝ }
+{
+    if i < v.len() { v[i] } else { 0 }
+}
+
+fn closed(number: u32, place: usize) -> Opened
+    ensures { λ r. ⌜ r ≡ Opened.Closed (record { number = number; place = record { 0 = place } }) ⌝ }
+{
+    Opened::Closed(Refusal {
+        number: number,
+        place: Place(place),
+    })
+}
+
+pub fn tiny_opened(image: &[u8]) -> Opened
+    ensures { λ r. ⌜ r ≡ tinyOpened (now (image .entry)) ⌝ }
+{
+    if image.len() < 3 {
+        return closed(3, 0);
+    }
+    if image[0] != 0x56 {
+        return closed(3, 0);
+    }
+    if image[1] != 0x02 {
+        return closed(4, 0);
+    }
+    let total = wide(image[2]);
+    if total < 4 {
+        return closed(5, 2);
+    }
+    if image.len() < total {
+        return closed(5, 2);
+    }
+    Opened::Room(3, total - 1)
+}
+
+// `shut`: the entry before was the pool.
+pub fn tiny_head(shut: bool, s: &[u8]) -> Headed
+    ensures { λ r. ⌜ r ≡ tinyHead shut (now (s .entry)) ⌝ }
+{
+    if s.len() <= 0 {
+        return Headed::Ends;
+    }
+    if shut {
+        return Headed::Wrong(9);
+    }
+    let code = code_of(s[0]);
+    if code == 0x00 {
+        return Headed::Wrong(6);
+    }
+    Headed::Opens(Head {
+        code: code,
+        key: 1,
+        klen: 0,
+        at: 1,
+    })
+}
+
+pub fn tiny_length(s: &[u8], h: Head) -> Length
+    ensures { λ r. ⌜ r ≡ tinyLength h (now (s .entry)) ⌝ }
+{
+    let code = h.code;
+    if code < 16 {
+        return parts::byte_length(s, h);
+    }
+    Length::Reads((code / 16) as usize, h.at)
+}
+
+// Whether a value of the length n may follow the tag.
+pub fn tiny_takes(code: u32, n: usize) -> bool
+    ensures { λ r. ⌜ r ≡ tinyTakes code n ⌝ }
+{
+    if code < 16 {
+        return n < 256;
+    }
+    n == (code / 16) as usize
+}
+
+fn revision_rule(v: &[u8]) -> bool
+    ensures { λ r. ⌜ r ≡ revisionRule (now (v .entry)) ⌝ }
+{
+    let major = byte_at(v, 2);
+    let minor = byte_at(v, 3);
+    if 99 < minor {
+        return false;
+    }
+    if major <= 99 {
+        return true;
+    }
+    if major < 128 {
+        return false;
+    }
+    major <= 153
+}
+
+fn batch_of(v: &[u8]) -> u32
+    ensures { λ r. ⌜ r ≡ batch (now (v .entry)) ⌝ }
+{
+    code_of(byte_at(v, 6)) + code_of(byte_at(v, 7)) * 256
+}
+
+pub fn tiny_rule(code: u32, v: &[u8]) -> bool
+    ensures { λ r. ⌜ r ≡ tinyRule code (now (v .entry)) ⌝ }
+{
+    match code {
+        0x61 | 0x62 => revision_rule(v),
+        0x80 | 0x81 => {
+            if !revision_rule(v) {
+                return false;
+            }
+            batch_of(v) <= 9999
+        }
+        _ => true,
+    }
+}
+
+// How many of the low four bits are on: the number of tests passed.
+fn tests_passed(b: u8) -> u8
+    ensures { λ r. ⌜ r ≡ passed b ⌝ }
+{
+    (u32::count_ones((b % 16) as u32) % 256) as u8
+}
+
+fn identity_of(v: &[u8]) -> Identity
+    ensures { λ r. ⌜ r ≡ identity (now (v .entry)) ⌝ }
+{
+    let serial = StringNumber(wide(byte_at(v, 0)));
+    let part = StringNumber(wide(byte_at(v, 1)));
+    Identity {
+        serial: serial,
+        part: part,
+        major: byte_at(v, 2),
+        minor: byte_at(v, 3),
+        free0: byte_at(v, 4),
+        free1: byte_at(v, 5),
+    }
+}
+
+pub fn tiny_reading(code: u32, v: &[u8]) -> Reading
+    ensures { λ r. ⌜ r ≡ tinyReading code (now (v .entry)) ⌝ }
+{
+    match code {
+        0x10 => Reading::Numbered(StringNumber(wide(byte_at(v, 0)))),
+        0x11 => {
+            let b = byte_at(v, 0);
+            Reading::Tests(b, tests_passed(b))
+        }
+        0x60 => Reading::Addresses(parts::six_bytes(v), 1),
+        0x61 | 0x62 => Reading::Identified(identity_of(v)),
+        0x80 | 0x81 => Reading::Batched(identity_of(v), batch_of(v)),
+        _ => Reading::Plain,
+    }
+}
+
+// Whether the check after entries that end at p is right.
+pub fn tiny_sealed(image: &[u8], p: usize) -> bool
+    ensures { λ r. ⌜ r ≡ sealed tiny (now (image .entry)) p ⌝ }
+{
+    if image.len() <= p {
+        return false;
+    }
+    crc::check8(&image[..p]) == image[p]
+}
