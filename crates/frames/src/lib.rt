@@ -233,17 +233,6 @@ pub fn value_rule(format: Format, code: u32, v: &[u8]) -> bool
     }
 }
 
-// The rule on the length of a value that is written.
-pub fn length_rule(format: Format, code: u32, n: usize) -> bool
-    ensures { λ r. ⌜ r ≡ shape format .lengthRule code n ⌝ }
-{
-    match format {
-        Format::Fboss => n < 256,
-        Format::Vpd => true,
-        Format::Tiny => tiny::tiny_takes(code, n),
-    }
-}
-
 // The reading of a named entry's value.
 pub fn reading_of(format: Format, code: u32, v: &[u8]) -> Reading
     ensures { λ r. ⌜ r ≡ shape format .reading code (now (v .entry)) ⌝ }

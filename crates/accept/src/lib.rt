@@ -1,0 +1,254 @@
+// The image's own refusals: an image is taken, with where its entries are, or refused.
+ghost use mathlib.Core.Path.{_≡_};
+ghost use mathlib.Core.Bool.{true, false};
+ghost use Prim.Native.Nat.{ℕ, _+_, _-_, _≤_, _<_};
+ghost use lib.ListN.{length, getD};
+ghost use Rattle.layout.specs.Bytes.{part, oneOf};
+ghost use Rattle.layout.specs.Shape.{Label};
+ghost use Rattle.layout.specs.Editions.{shape};
+ghost use Rattle.layout.specs.Read.{seenBefore, codesOf, fault, complete, checkPlace};
+ghost use Rattle.accept.specs.Passes.{walked, endingOf, IsDone, rawsIn, labels, before, judged};
+ghost use Rattle.accept.specs.Taken.{taken};
+use layout::Chosen;
+use layout::Format;
+use layout::Frame;
+use layout::Next;
+use layout::Opened;
+use layout::Place;
+use layout::Refusal;
+
+// How a walk over frames ends: with so many entries at a place, or with a refusal's number at a place.
+pub enum Ending {
+    Ends(usize, usize),
+    Stops(u32, usize),
+}
+
+// What the rules and the required fields come to: a refusal's number and place, or nothing.
+pub enum Judgement {
+    Fine,
+    Faulty(u32, usize),
+}
+
+// Where the entries of an accepted image are, and how many: they start at `start`, have room up to `end`, and end at `over`.
+pub struct Room {
+    pub format: Format,
+    pub start: usize,
+    pub end: usize,
+    pub over: usize,
+    pub count: usize,
+}
+
+pub enum Taken {
+    Is(Room),
+    Isnt(Refusal),
+}
+
+// One pass over the frames.
+fn walk_image(format: Format, image: &[u8], start: usize, end: usize) -> Ending
+    requires { ⌜ start ≤ end ⌝ }
+    ensures { λ r. ⌜ r ≡ endingOf 0 (walked format (now (image .entry)) start end) ⌝ }
+{
+    let mut p = start;
+    let mut n: usize = 0;
+    let mut shut = false;
+    loop {
+        let x = frames::next_frame(format, shut, image, p, end);
+        match x {
+            Next::Framed(f) => {
+                shut = frames::is_last(format, f.code);
+                p += f.size;
+                n += 1;
+            }
+            Next::Ended => {
+                return Ending::Ends(n, p);
+            }
+            Next::Broken(k) => {
+                return Ending::Stops(k, p);
+            }
+        }
+    }
+}
+
+// Whether an entry before p has code 01h and this key.
+fn seen_key(image: &[u8], start: usize, end: usize, p: usize, key: &[u8]) -> bool
+    requires { ⌜ (start ≤ end) × IsDone (walked Format.Vpd (now image) start end) ⌝ }
+    ensures { λ r. ⌜ r ≡ seenBefore (shape Format.Vpd) (labels (before (rawsIn (walked Format.Vpd (now (image .entry)) start end)) start p)) (record { code = 1; key = now (key .entry) }) ⌝ }
+{
+    let mut q = start;
+    while q < p {
+        let x = frames::next_frame(Format::Vpd, false, image, q, end);
+        match x {
+            Next::Framed(f) => {
+                if f.code == 1 {
+                    if parts::same_bytes(key, frames::part_of(image, q + f.key, f.klen)) {
+                        return true;
+                    }
+                }
+                q += f.size;
+            }
+            Next::Ended => {
+                return false;
+            }
+            Next::Broken(_) => {
+                return false;
+            }
+        }
+    }
+    false
+}
+
+// Whether all required codes were seen.
+fn is_complete(format: Format, seen: &[u8; 256]) -> bool {
+    match format {
+        Format::Fboss => {
+            if seen[1] == 0 {
+                return false;
+            }
+            if seen[8] == 0 {
+                return false;
+            }
+            if seen[9] == 0 {
+                return false;
+            }
+            if seen[10] == 0 {
+                return false;
+            }
+            seen[11] != 0
+        }
+        Format::Vpd => true,
+        Format::Tiny => true,
+    }
+}
+
+// Whether the entry of this code and key, at p, comes a second time.
+fn is_seen(format: Format, image: &[u8], start: usize, end: usize, p: usize, code: u32, key: &[u8], seen: &[u8; 256]) -> bool {
+    match format {
+        Format::Vpd => {
+            if code == 1 {
+                return seen_key(image, start, end, p, key);
+            }
+        }
+        Format::Fboss => {}
+        Format::Tiny => {}
+    }
+    let at = (code % 256) as usize;
+    seen[at] != 0
+}
+
+// What is wrong with the entry at p: 7, then 8, and 0 for nothing.
+fn fault_at(format: Format, edition: u32, image: &[u8], start: usize, end: usize, p: usize, f: Frame, seen: &[u8; 256]) -> u32 {
+    let code = f.code;
+    if !frames::is_named(format, edition, code) {
+        return 0;
+    }
+    let key = frames::part_of(image, p + f.key, f.klen);
+    if !frames::reader_key(format, code, key) {
+        return 7;
+    }
+    if !frames::value_rule(format, code, frames::part_of(image, p + f.val, f.vlen)) {
+        return 7;
+    }
+    if is_seen(format, image, start, end, p, code, key, seen) {
+        return 8;
+    }
+    0
+}
+
+// The rules, entry by entry, and the required fields: one pass over the frames.
+fn judge_image(format: Format, edition: u32, image: &[u8], start: usize, end: usize) -> Judgement
+    requires { ⌜ (start ≤ end) × IsDone (walked format (now image) start end) ⌝ }
+    ensures { λ r. ⌜ r ≡ judged format edition (rawsIn (walked format (now (image .entry)) start end)) start ⌝ }
+{
+    let mut seen = [0u8; 256];
+    let mut p = start;
+    let mut shut = false;
+    loop {
+        let x = frames::next_frame(format, shut, image, p, end);
+        match x {
+            Next::Framed(f) => {
+                let k = fault_at(format, edition, image, start, end, p, f, &seen);
+                if k != 0 {
+                    return Judgement::Faulty(k, p);
+                }
+                let code = f.code;
+                let at = (code % 256) as usize;
+                seen[at] = 1;
+                shut = frames::is_last(format, code);
+                p += f.size;
+            }
+            Next::Ended => {
+                if is_complete(format, &seen) {
+                    return Judgement::Fine;
+                }
+                return Judgement::Faulty(11, 0);
+            }
+            Next::Broken(_) => {
+                return Judgement::Fine;
+            }
+        }
+    }
+}
+
+fn refused(number: u32, place: usize) -> Taken
+    ensures { λ r. ⌜ r ≡ Taken.Isnt (record { number = number; place = record { 0 = place } }) ⌝ }
+{
+    Taken::Isnt(Refusal {
+        number: number,
+        place: Place(place),
+    })
+}
+
+// The number of bytes between the end of the entries and the check.
+fn closing_length(format: Format) -> usize
+    ensures { λ r. ⌜ r ≡ length (shape format .closing) ⌝ }
+{
+    match format {
+        Format::Fboss => 2,
+        Format::Vpd => 1,
+        Format::Tiny => 0,
+    }
+}
+
+// An image whose entries have the room from start to end.
+fn take_room(format: Format, edition: u32, image: &[u8], start: usize, end: usize) -> Taken {
+    let w = walk_image(format, image, start, end);
+    match w {
+        Ending::Stops(k, p) => refused(k, p),
+        Ending::Ends(count, p) => {
+            if !frames::is_sealed(format, image, p) {
+                return refused(10, p + closing_length(format));
+            }
+            let j = judge_image(format, edition, image, start, end);
+            match j {
+                Judgement::Faulty(k, q) => refused(k, q),
+                Judgement::Fine => Taken::Is(Room {
+                    format: format,
+                    start: start,
+                    end: end,
+                    over: p,
+                    count: count,
+                }),
+            }
+        }
+    }
+}
+
+// The image, or its refusal: 16, 1, 2, its header's, 5, 6 and 9, then 10, 7 and 8, 11.
+pub fn take_image(format: u32, edition: u32, image: &[u8]) -> Taken
+    ensures { λ r. ⌜ r ≡ taken format edition (now (image .entry)) ⌝ }
+{
+    let c = frames::choose(format, edition);
+    match c {
+        Chosen::Unknown(k) => refused(k, 0),
+        Chosen::Known(f) => {
+            if 65536 < image.len() {
+                return refused(2, 0);
+            }
+            let o = frames::open_image(f, image);
+            match o {
+                Opened::Closed(r) => Taken::Isnt(r),
+                Opened::Room(start, end) => take_room(f, edition, image, start, end),
+            }
+        }
+    }
+}
