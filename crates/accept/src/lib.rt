@@ -97,31 +97,17 @@ fn seen_key(image: &[u8], start: usize, end: usize, p: usize, key: &[u8]) -> boo
     false
 }
 
-// Whether all required codes were seen.
-fn is_complete(format: Format, seen: &[u8; 256]) -> bool {
-    match format {
-        Format::Fboss => {
-            if seen[1] == 0 {
-                return false;
-            }
-            if seen[8] == 0 {
-                return false;
-            }
-            if seen[9] == 0 {
-                return false;
-            }
-            if seen[10] == 0 {
-                return false;
-            }
-            seen[11] != 0
-        }
-        Format::Vpd => true,
-        Format::Tiny => true,
-    }
-}
-
 // Whether the entry of this code and key, at p, comes a second time.
-fn is_seen(format: Format, image: &[u8], start: usize, end: usize, p: usize, code: u32, key: &[u8], seen: &[u8; 256]) -> bool {
+fn is_seen(
+    format: Format,
+    image: &[u8],
+    start: usize,
+    end: usize,
+    p: usize,
+    code: u32,
+    key: &[u8],
+    seen: &[u8; 256],
+) -> bool {
     match format {
         Format::Vpd => {
             if code == 1 {
@@ -136,7 +122,16 @@ fn is_seen(format: Format, image: &[u8], start: usize, end: usize, p: usize, cod
 }
 
 // What is wrong with the entry at p: 7, then 8, and 0 for nothing.
-fn fault_at(format: Format, edition: u32, image: &[u8], start: usize, end: usize, p: usize, f: Frame, seen: &[u8; 256]) -> u32 {
+fn fault_at(
+    format: Format,
+    edition: u32,
+    image: &[u8],
+    start: usize,
+    end: usize,
+    p: usize,
+    f: Frame,
+    seen: &[u8; 256],
+) -> u32 {
     let code = f.code;
     if !frames::is_named(format, edition, code) {
         return 0;
@@ -177,7 +172,7 @@ fn judge_image(format: Format, edition: u32, image: &[u8], start: usize, end: us
                 p += f.size;
             }
             Next::Ended => {
-                if is_complete(format, &seen) {
+                if frames::is_complete(format, &seen) {
                     return Judgement::Fine;
                 }
                 return Judgement::Faulty(11, 0);

@@ -1,7 +1,9 @@
 // FBOSS v5: its header, what opens an entry, its rules and readings, and its check.
 ghost use mathlib.Core.Path.{_≡_};
-ghost use Rattle.layout.specs.Fboss.{fboss, fbossOpened, fbossHead, printable, digit, dateRule, fbossRule, fbossReading};
-ghost use Rattle.layout.specs.Bytes.{all};
+ghost use mathlib.Core.Bool.{_&&_};
+ghost use Prim.Native.Nat.{_+_, _*_, _-_};
+ghost use Rattle.layout.specs.Fboss.{fboss, fbossOpened, fbossHead, printable, dateRule, fbossRule, fbossReading};
+ghost use Rattle.layout.specs.Bytes.{all, between};
 ghost use Rattle.layout.specs.Read.{sealed};
 use layout::Head;
 use layout::Headed;
@@ -28,20 +30,21 @@ fn closed(number: u32) -> Opened
 pub fn fboss_opened(image: &[u8]) -> Opened
     ensures { λ r. ⌜ r ≡ fbossOpened (now (image .entry)) ⌝ }
 {
+    let no_header = closed(3);
     if image.len() < 4 {
-        return closed(3);
+        return no_header;
     }
     if image[0] != 0xFB {
-        return closed(3);
+        return no_header;
     }
     if image[1] != 0xFB {
-        return closed(3);
+        return no_header;
     }
     if image[2] != 0x05 {
         return closed(4);
     }
     if image[3] != 0xFF {
-        return closed(3);
+        return no_header;
     }
     Opened::Room(4, image.len())
 }
@@ -52,7 +55,7 @@ pub fn fboss_head(s: &[u8]) -> Headed
     if s.len() <= 0 {
         return Headed::Wrong(5);
     }
-    let code = wide(s[0]);
+    let code = s[0];
     if code == 0 {
         return Headed::Wrong(6);
     }
@@ -63,7 +66,7 @@ pub fn fboss_head(s: &[u8]) -> Headed
         if s.len() <= 1 {
             return Headed::Wrong(5);
         }
-        if wide(s[1]) != 2 {
+        if s[1] != 2 {
             return Headed::Wrong(6);
         }
         if s.len() <= 3 {
@@ -72,58 +75,55 @@ pub fn fboss_head(s: &[u8]) -> Headed
         return Headed::Ends;
     }
     Headed::Opens(Head {
-        code: code,
+        code: wide(code),
         key: 1,
         klen: 0,
         at: 1,
     })
 }
 
+// Whether every byte is one of low to high.
+fn all_between(v: &[u8], low: u8, high: u8) -> bool
+    ensures { λ r. ⌜ r ≡ all (between low high) (now (v .entry)) ⌝ }
+{
+    let mut i = 0;
+    while i < v.len() {
+        if v[i] < low {
+            return false;
+        }
+        if high < v[i] {
+            return false;
+        }
+        i += 1;
+    }
+    true
+}
+
 // Whether every byte is text.
 fn all_printable(v: &[u8]) -> bool
     ensures { λ r. ⌜ r ≡ all printable (now (v .entry)) ⌝ }
 {
-    let mut i = 0;
-    while i < v.len() {
-        if v[i] < 0x20 {
-            return false;
-        }
-        if 0x7E < v[i] {
-            return false;
-        }
-        i += 1;
-    }
-    true
+    all_between(v, 0x20, 0x7E)
 }
 
-// Whether every byte is a digit.
-fn all_digits(v: &[u8]) -> bool
-    ensures { λ r. ⌜ r ≡ all digit (now (v .entry)) ⌝ }
+// The number that a digit shows.
+fn digit_value(x: u8) -> u32
+    ensures { λ r. ⌜ r ≡ x - 0x30 ⌝ }
 {
-    let mut i = 0;
-    while i < v.len() {
-        if v[i] < 0x30 {
-            return false;
-        }
-        if 0x39 < v[i] {
-            return false;
-        }
-        i += 1;
-    }
-    true
+    if x < 0x30 { 0 } else { wide(x - 0x30) }
 }
 
-fn date_rule(v: &[u8]) -> bool
-    ensures { λ r. ⌜ r ≡ dateRule (now (v .entry)) ⌝ }
+// The number that two digits show.
+fn two_digits(x: u8, y: u8) -> u32
+    ensures { λ r. ⌜ r ≡ (x - 0x30) * 10 + (y - 0x30) ⌝ }
 {
-    if v.len() != 8 {
-        return false;
-    }
-    if !all_digits(v) {
-        return false;
-    }
-    let month = (wide(v[4]) - 0x30) * 10 + (wide(v[5]) - 0x30);
-    let day = (wide(v[6]) - 0x30) * 10 + (wide(v[7]) - 0x30);
+    digit_value(x) * 10 + digit_value(y)
+}
+
+// Whether the month is 1 to 12 and the day 1 to 31.
+fn in_calendar(month: u32, day: u32) -> bool
+    ensures { λ r. ⌜ r ≡ (between 1 12 month && between 1 31 day) ⌝ }
+{
     if month < 1 {
         return false;
     }
@@ -134,6 +134,19 @@ fn date_rule(v: &[u8]) -> bool
         return false;
     }
     day <= 31
+}
+
+fn date_rule(v: &[u8]) -> bool
+    ensures { λ r. ⌜ r ≡ dateRule (now (v .entry)) ⌝ }
+{
+    if v.len() != 8 {
+        return false;
+    }
+    if all_between(v, 0x30, 0x39) {
+        in_calendar(two_digits(v[4], v[5]), two_digits(v[6], v[7]))
+    } else {
+        false
+    }
 }
 
 pub fn fboss_rule(code: u32, v: &[u8]) -> bool
@@ -185,9 +198,9 @@ pub fn fboss_sealed(image: &[u8], p: usize) -> bool
     if image.len() - 4 < p {
         return false;
     }
+    let at = p + 2;
+    let end = at + 2;
     let c = crc::check16(&image[..p]);
-    if image[p + 2] != (c / 256) as u8 {
-        return false;
-    }
-    image[p + 3] == (c % 256) as u8
+    let check = [(c / 256) as u8, (c % 256) as u8];
+    parts::same_bytes(&image[at..end], &check)
 }

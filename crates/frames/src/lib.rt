@@ -5,6 +5,7 @@ ghost use Rattle.layout.specs.Bytes.{part};
 ghost use Rattle.layout.specs.Shape.{next};
 ghost use Rattle.layout.specs.Editions.{shape, withEdition, chosen, names, kind};
 ghost use Rattle.layout.specs.Read.{sealed};
+ghost use Rattle.laws.specs.Marked.{allMarked};
 use layout::Chosen;
 use layout::Format;
 use layout::Frame;
@@ -230,6 +231,31 @@ pub fn value_rule(format: Format, code: u32, v: &[u8]) -> bool
         Format::Fboss => fboss::fboss_rule(code, v),
         Format::Vpd => vpd::vpd_rule(code, v),
         Format::Tiny => tiny::tiny_rule(code, v),
+    }
+}
+
+// Whether all required codes are marked as seen.
+pub fn is_complete(format: Format, seen: &[u8; 256]) -> bool
+    ensures { λ r. ⌜ r ≡ allMarked (shape format .required) (now (seen .entry)) ⌝ }
+{
+    match format {
+        Format::Fboss => {
+            if seen[1] == 0 {
+                return false;
+            }
+            if seen[8] == 0 {
+                return false;
+            }
+            if seen[9] == 0 {
+                return false;
+            }
+            if seen[10] == 0 {
+                return false;
+            }
+            seen[11] != 0
+        }
+        Format::Vpd => true,
+        Format::Tiny => true,
     }
 }
 

@@ -91,6 +91,7 @@ unfolding fboss fbossHead part names sinceIn
 fboss-laws =
     record {
       opening-key = λ front key c o. bare-key (o .is) (o .keyless);
+      opening-first = λ front key c o. ([], o .is);
       keyless = λ front key c e o. o .keyless;
       head-sound = λ b s h e. rw e at (heads s);
       head-complete = λ front key t c o.

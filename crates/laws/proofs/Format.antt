@@ -60,6 +60,7 @@ pub record Wholly (S : Shape) (G : Grammar) (image entries : List ℕ) : Type 0 
 pub record Laws (S : Shape) (G : Grammar) : Type 1 where
   -- heads
   pub opening-key : (front key : List ℕ) (c : ℕ) → G .Opening front c key → KeyLast front key
+  pub opening-first : (front key : List ℕ) (c : ℕ) → G .Opening front c key → (rest : List ℕ) × (front ≡ c ∷ rest)
   pub keyless : (front key : List ℕ) (c : ℕ) → S .keyed ≡ false → G .Opening front c key → key ≡ []
   pub head-sound : (b : Bool) (s : List ℕ) (h : Head) → S .head b s ≡ Opens h → Begins G s h
   pub head-complete : (front key t : List ℕ) (c : ℕ) → G .Opening front c key → S .head false (front ++ t) ≡ Opens (headFrom front c key)

@@ -9,6 +9,7 @@ pub mod Images
 pub mod Judging
 pub mod LengthBytes
 pub mod Lists
+pub mod Marks
 pub mod OneByte
 pub mod Passes
 pub mod Records

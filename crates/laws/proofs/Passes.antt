@@ -6,8 +6,8 @@ use mathlib.Core.List.{List, [], _∷_, _++_, append-assoc, append-nil}
 use mathlib.Core.Bool.{Bool, true, false}
 use native.Mathlib.Omega.{arith}
 use native.Mathlib.Nat.{add-zero}
-use lib.ListN.{length, take, drop, length-append, length-drop, length-take}
-use lib.Seq.{take-at, drop-at, drop-drop, take-nil}
+use lib.ListN.{length, getD, take, drop, length-append, length-drop, length-take}
+use lib.Seq.{take-at, drop-at, drop-drop, take-nil, getD-take, getD-drop}
 use Rattle.layout.specs.declared.Frame.{Frame}
 use Rattle.layout.specs.declared.Headed.the-variants.{Ends}
 use Rattle.layout.specs.declared.Next.the-variants.{Framed, Ended, Broken}
@@ -49,6 +49,18 @@ pub record Passing (S : Shape) (G : Grammar) (image : List ℕ) (start end : ℕ
   pub ends : EndsAt S rest
   pub frames : Frames S G shut todo
   pub bound : p ≤ end
+
+-- an entry's first byte is its code
+pub raw-code : {S : Shape} {G : Grammar} (L : Laws S G) (r : Raw) (t : List ℕ) → IsRaw G r → getD (r .bytes ++ t) 0 0 ≡ r .frame .code
+raw-code L r t i =
+    let o = L .opening-first (i .front) (i .key) (i .code) (i .opens) in
+    let code : r .frame .code ≡ i .code = ap (λ (f : Frame). f .code) (i .framed) in
+    rw (i .is, code) (ap (λ (x : List ℕ). getD ((x ++ (i .lens ++ i .value)) ++ t) 0 0) (o .1))
+
+-- a byte of a part is a byte of the image
+pub part-byte : (image : List ℕ) (p n i : ℕ) → i < n → getD (part p n image) i 0 ≡ getD image (p + i) 0
+unfolding part
+part-byte image p n i lt = getD-take n (drop p image) i 0 lt ∙ getD-drop p image i 0
 
 -- the entries laid flat, one more
 pub flat-snoc : (rs : List Raw) (r : Raw) → flat (rs ++ (r ∷ [])) ≡ flat rs ++ r .bytes

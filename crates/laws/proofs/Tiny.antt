@@ -100,6 +100,7 @@ unfolding tiny tinyHead part names sinceIn
 tiny-laws =
     record {
       opening-key = λ front key c o. bare-key (o .is) (o .keyless);
+      opening-first = λ front key c o. ([], o .is);
       keyless = λ front key c e o. o .keyless;
       head-sound = λ b s h e. (rw e at (heads b s)) .1;
       head-complete = λ front key t c o. rw (o .is, o .keyless, lt-ltb 0 (length (c ∷ t)) (omega arith), ne-eqb c 0x00 (o .not0));

@@ -119,6 +119,7 @@ unfolding vpd part vpdReaderKey vpdWriterKey
 vpd-laws =
     record {
       opening-key = λ front key c o. record { before = c ∷ o .lens; joined = o .is; some = omega arith };
+      opening-first = λ front key c o. (o .lens ++ key, o .is);
       keyless = λ front key c e o. absurd (false≢true (sym e));
       head-sound = λ b s h e. rw e at (head-reads s);
       head-complete = head-made;

@@ -124,3 +124,36 @@ module _ {S : Shape} {G : Grammar} (L : Laws S G) where
   -- where a walk ended, entries end whatever came before
   pub decoded-ends : {b : Bool} {p : ℕ} {s : List ℕ} {rs : List Raw} {q : ℕ} (d : Decoded S G b p s rs q) → EndsAt S (d .rest)
   decoded-ends d c = L .head-ends (d .flag) c (d .rest) (d .ended)
+
+  -- turns beyond the bytes change nothing
+  fuel-turn : (b : Bool) (p : ℕ) (s : List ℕ) (x : Next) (k k′ : Frame → Walked) → next S b s ≡ x →
+      ((f : Frame) → 0 < f .size → f .size ≤ length s → k f ≡ k′ f) → turn x p s k ≡ turn x p s k′
+  fuel-turn b p s (Framed f) k k′ n ih = let i = framed-in L b s f n in rw (ih f (i .0) (i .1))
+  fuel-turn b p s Ended k k′ n ih = refl
+  fuel-turn b p s (Broken m) k k′ n ih = refl
+
+  fuel : (d d′ : ℕ) (b : Bool) (p : ℕ) (s : List ℕ) → length s < d → length s < d′ → walks d S b p s ≡ walks d′ S b p s
+  unfolding walks
+  fuel zero d′ b p s l l′ = absurd (omega arith)
+  fuel (suc d) zero b p s l l′ = absurd (omega arith)
+  fuel (suc d) (suc d′) b p s l l′ =
+      fuel-turn b p s (next S b s) (λ f. walks d S (S .last (f .code)) (p + f .size) (drop (f .size) s)) (λ f. walks d′ S (S .last (f .code)) (p + f .size) (drop (f .size) s)) refl
+      (λ f n0 nl. fuel d d′ (S .last (f .code)) (p + f .size) (drop (f .size) s) (omega (arith, length-drop (f .size) s)) (omega (arith, length-drop (f .size) s)))
+
+  -- one turn of the walk, with no count of turns in sight
+  pub walk-frame : (b : Bool) (p : ℕ) (s : List ℕ) (f : Frame) → next S b s ≡ Framed f →
+      walk S b p s ≡ more (rawOf f s) (walk S (S .last (f .code)) (p + f .size) (drop (f .size) s))
+  unfolding walk walks
+  walk-frame b p s f n =
+      let i = framed-in L b s f n in
+      rw n
+      (ap (more (rawOf f s))
+      (fuel (length s) (suc (length (drop (f .size) s))) (S .last (f .code)) (p + f .size) (drop (f .size) s) (omega (arith, length-drop (f .size) s)) (omega arith)))
+
+pub walk-end : (S : Shape) (b : Bool) (p : ℕ) (s : List ℕ) → next S b s ≡ Ended → walk S b p s ≡ done [] p
+unfolding walk walks
+walk-end S b p s n = rw n
+
+pub walk-bad : (S : Shape) (b : Bool) (p : ℕ) (s : List ℕ) (k : ℕ) → next S b s ≡ Broken k → walk S b p s ≡ stop k p
+unfolding walk walks
+walk-bad S b p s k n = rw n

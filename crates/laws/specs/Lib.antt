@@ -1,2 +1,3 @@
 pub mod Contents
 pub mod Grammar
+pub mod Marked

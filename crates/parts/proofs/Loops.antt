@@ -30,6 +30,7 @@ module _ (t : ℕ → Bool) (v : List ℕ) (i : ℕ) (inv : Passing t v i) where
   unfolding all
   passed le = sym (inv .1 ∙ rw (drop-of-length-le v le))
 
+-- A choice between two sides that are false is false.
 or-else : (t : Bool) {a : Bool} → false ≡ a → false ≡ if t (λ _. a) (λ _. false)
 or-else true e = e
 or-else false e = refl
@@ -70,8 +71,17 @@ abbrev pub Taking : List ℕ → (a end r i : ℕ) → Type 0
 Taking s a end r i =
     (a ≤ i) × (i ≤ end) × (r < 256 ^ (i - a)) × (highFirst 0 (part a (end - a) s) ≡ highFirst r (part i (end - i) s))
 
+-- None is left to take past those asked for, and past the list.
+pub none-asked : (s : List ℕ) (end i : ℕ) → end ≤ i → part i (end - i) s ≡ []
+unfolding part
+none-asked s end i le = let e : end - i ≡ 0 = omega arith in rw e
+
+pub none-there : (s : List ℕ) (end i : ℕ) → length s ≤ i → part i (end - i) s ≡ []
+unfolding part
+none-there s end i le = rw (drop-of-length-le s le, take-nil)
+
 module _ (s : List ℕ) (a end r i : ℕ) (inv : Taking s a end r i) where
-  -- The number of fewer than six bytes.
+  -- Fewer than six are taken.
   pub small : end ≤ a + 6 → i < end → r < 256 ^ 5
   small le lt = omega (arith, pow-le-pow-right {n = 256} (omega arith) {i = i - a} {j = 5} (omega arith))
 
@@ -82,16 +92,8 @@ module _ (s : List ℕ) (a end r i : ℕ) (inv : Taking s a end r i) where
       let f : i + 1 - a ≡ suc (i - a) = omega arith in
       (omega arith, omega arith, rw (f, pow-suc) (omega arith), inv .3 ∙ rw (e, drop-cons s i 0, add-one))
 
-  -- No byte is left, of those asked for or of the list.
+  -- None is left.
   pub taken : part i (end - i) s ≡ [] → (r ≡ highFirst 0 (part a (end - a) s)) × (r < 256 ^ (end - a))
   unfolding highFirst
   taken none =
       (sym (inv .3 ∙ rw none), omega (arith, pow-le-pow-right {n = 256} (omega arith) {i = i - a} {j = end - a} (omega arith)))
-
-  pub none-asked : end ≤ i → part i (end - i) s ≡ []
-  unfolding part
-  none-asked le = let e : end - i ≡ 0 = omega arith in rw e
-
-  pub none-there : length s ≤ i → part i (end - i) s ≡ []
-  unfolding part
-  none-there le = rw (drop-of-length-le s le, take-nil)

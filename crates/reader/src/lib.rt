@@ -111,7 +111,14 @@ fn entry_of(format: Format, edition: u32, image: &[u8], p: usize, f: Frame) -> E
 }
 
 // The entry at p, in a room that ends before `end`.
-pub fn entry_here(format: Format, edition: u32, image: &[u8], shut: bool, p: usize, end: usize) -> Here
+pub fn entry_here(
+    format: Format,
+    edition: u32,
+    image: &[u8],
+    shut: bool,
+    p: usize,
+    end: usize,
+) -> Here
     ensures { λ r. ⌜ r ≡ hereAt (shape format) edition (now (image .entry)) shut p end ⌝ }
 {
     let x = frames::next_frame(format, shut, image, p, end);
@@ -130,7 +137,14 @@ pub fn entry_here(format: Format, edition: u32, image: &[u8], shut: bool, p: usi
 }
 
 // Entry n of entries that begin at start.
-fn nth_entry(format: Format, edition: u32, image: &[u8], start: usize, end: usize, n: usize) -> Lookup
+fn nth_entry(
+    format: Format,
+    edition: u32,
+    image: &[u8],
+    start: usize,
+    end: usize,
+    n: usize,
+) -> Lookup
     requires { ⌜ (start ≤ end) × IsDone (walked format (now image) start end) ⌝ }
     ensures { λ r. ⌜ r ≡ nth (entriesOf (shape format) edition start (rawsIn (walked format (now (image .entry)) start end))) n ⌝ }
 {

@@ -1,6 +1,7 @@
 // Tiny EEPROM version 2: its header, what opens an entry, lengths, rules and readings, and its check.
 ghost use mathlib.Core.Path.{_≡_};
 ghost use lib.ListN.{getD};
+ghost use Rattle.layout.specs.Bytes.{refusal};
 ghost use Rattle.layout.specs.Tiny.{tiny, tinyOpened, tinyHead, tinyLength, tinyTakes, revisionRule, batch, tinyRule, passed, identity, tinyReading};
 ghost use Rattle.layout.specs.Read.{sealed};
 use layout::Head;
@@ -13,18 +14,6 @@ use layout::Reading;
 use layout::Refusal;
 use layout::StringNumber;
 
-fn wide(x: u8) -> usize
-    ensures { λ r. ⌜ r ≡ x ⌝ }
-{
-    x as usize
-}
-
-fn code_of(x: u8) -> u32
-    ensures { λ r. ⌜ r ≡ x ⌝ }
-{
-    x as u32
-}
-
 // The byte at i, or 0 where there is none.
 fn byte_at(v: &[u8], i: usize) -> u8
     ensures { λ r. ⌜ r ≡ getD (now (v .entry)) i 0 ⌝ }
@@ -32,8 +21,9 @@ fn byte_at(v: &[u8], i: usize) -> u8
     if i < v.len() { v[i] } else { 0 }
 }
 
+// The answer for a header that is refused.
 fn closed(number: u32, place: usize) -> Opened
-    ensures { λ r. ⌜ r ≡ Opened.Closed (record { number = number; place = record { 0 = place } }) ⌝ }
+    ensures { λ r. ⌜ r ≡ Opened.Closed (refusal number place) ⌝ }
 {
     Opened::Closed(Refusal {
         number: number,
@@ -41,6 +31,7 @@ fn closed(number: u32, place: usize) -> Opened
     })
 }
 
+// Where the entries of an image are, by its header.
 pub fn tiny_opened(image: &[u8]) -> Opened
     ensures { λ r. ⌜ r ≡ tinyOpened (now (image .entry)) ⌝ }
 {
@@ -53,17 +44,14 @@ pub fn tiny_opened(image: &[u8]) -> Opened
     if image[1] != 0x02 {
         return closed(4, 0);
     }
-    let total = wide(image[2]);
-    if total < 4 {
-        return closed(5, 2);
+    let total = image[2] as usize;
+    if (4 <= total) & (total <= image.len()) {
+        return Opened::Room(3, total - 1);
     }
-    if image.len() < total {
-        return closed(5, 2);
-    }
-    Opened::Room(3, total - 1)
+    closed(5, 2)
 }
 
-// `shut`: the entry before was the pool.
+// What opens an entry. `shut`: the entry before was the pool.
 pub fn tiny_head(shut: bool, s: &[u8]) -> Headed
     ensures { λ r. ⌜ r ≡ tinyHead shut (now (s .entry)) ⌝ }
 {
@@ -73,7 +61,7 @@ pub fn tiny_head(shut: bool, s: &[u8]) -> Headed
     if shut {
         return Headed::Wrong(9);
     }
-    let code = code_of(s[0]);
+    let code = s[0] as u32;
     if code == 0x00 {
         return Headed::Wrong(6);
     }
@@ -85,6 +73,7 @@ pub fn tiny_head(shut: bool, s: &[u8]) -> Headed
     })
 }
 
+// The length of a value, after its head.
 pub fn tiny_length(s: &[u8], h: Head) -> Length
     ensures { λ r. ⌜ r ≡ tinyLength h (now (s .entry)) ⌝ }
 {
@@ -105,41 +94,32 @@ pub fn tiny_takes(code: u32, n: usize) -> bool
     n == (code / 16) as usize
 }
 
+// Whether the revision of an identity is allowed.
 fn revision_rule(v: &[u8]) -> bool
     ensures { λ r. ⌜ r ≡ revisionRule (now (v .entry)) ⌝ }
 {
     let major = byte_at(v, 2);
     let minor = byte_at(v, 3);
-    if 99 < minor {
-        return false;
-    }
-    if major <= 99 {
-        return true;
-    }
-    if major < 128 {
-        return false;
-    }
-    major <= 153
+    ((major <= 99) | ((128 <= major) & (major <= 153))) & (minor <= 99)
 }
 
+// The batch number at the end of an identity with batch, low byte first.
 fn batch_of(v: &[u8]) -> u32
     ensures { λ r. ⌜ r ≡ batch (now (v .entry)) ⌝ }
 {
-    code_of(byte_at(v, 6)) + code_of(byte_at(v, 7)) * 256
+    (byte_at(v, 6) as u32) + (byte_at(v, 7) as u32) * 256
 }
 
+// Whether the value of a named entry is allowed.
 pub fn tiny_rule(code: u32, v: &[u8]) -> bool
     ensures { λ r. ⌜ r ≡ tinyRule code (now (v .entry)) ⌝ }
 {
-    match code {
-        0x61 | 0x62 => revision_rule(v),
-        0x80 | 0x81 => {
-            if !revision_rule(v) {
-                return false;
-            }
-            batch_of(v) <= 9999
-        }
-        _ => true,
+    if (0x61 <= code) & (code <= 0x62) {
+        revision_rule(v)
+    } else if (0x80 <= code) & (code <= 0x81) {
+        revision_rule(v) & (batch_of(v) <= 9999)
+    } else {
+        true
     }
 }
 
@@ -150,14 +130,20 @@ fn tests_passed(b: u8) -> u8
     (u32::count_ones((b % 16) as u32) % 256) as u8
 }
 
+// The string number that the byte at i is.
+fn string_number(v: &[u8], i: usize) -> StringNumber
+    ensures { λ r. ⌜ r .0 ≡ getD (now (v .entry)) i 0 ⌝ }
+{
+    StringNumber(byte_at(v, i) as usize)
+}
+
+// The identity that a value begins with.
 fn identity_of(v: &[u8]) -> Identity
     ensures { λ r. ⌜ r ≡ identity (now (v .entry)) ⌝ }
 {
-    let serial = StringNumber(wide(byte_at(v, 0)));
-    let part = StringNumber(wide(byte_at(v, 1)));
     Identity {
-        serial: serial,
-        part: part,
+        serial: string_number(v, 0),
+        part: string_number(v, 1),
         major: byte_at(v, 2),
         minor: byte_at(v, 3),
         free0: byte_at(v, 4),
@@ -165,19 +151,23 @@ fn identity_of(v: &[u8]) -> Identity
     }
 }
 
+// What the value of a named entry means.
 pub fn tiny_reading(code: u32, v: &[u8]) -> Reading
     ensures { λ r. ⌜ r ≡ tinyReading code (now (v .entry)) ⌝ }
 {
-    match code {
-        0x10 => Reading::Numbered(StringNumber(wide(byte_at(v, 0)))),
-        0x11 => {
-            let b = byte_at(v, 0);
-            Reading::Tests(b, tests_passed(b))
-        }
-        0x60 => Reading::Addresses(parts::six_bytes(v), 1),
-        0x61 | 0x62 => Reading::Identified(identity_of(v)),
-        0x80 | 0x81 => Reading::Batched(identity_of(v), batch_of(v)),
-        _ => Reading::Plain,
+    if code == 0x10 {
+        Reading::Numbered(string_number(v, 0))
+    } else if code == 0x11 {
+        let b = byte_at(v, 0);
+        Reading::Tests(b, tests_passed(b))
+    } else if code == 0x60 {
+        Reading::Addresses(parts::six_bytes(v), 1)
+    } else if (0x61 <= code) & (code <= 0x62) {
+        Reading::Identified(identity_of(v))
+    } else if (0x80 <= code) & (code <= 0x81) {
+        Reading::Batched(identity_of(v), batch_of(v))
+    } else {
+        Reading::Plain
     }
 }
 
@@ -188,5 +178,5 @@ pub fn tiny_sealed(image: &[u8], p: usize) -> bool
     if image.len() <= p {
         return false;
     }
-    crc::check8(&image[..p]) == image[p]
+    image[p] == crc::check8(&image[..p])
 }

@@ -1,6 +1,8 @@
 // VPD 2.0: what opens an entry, its length bytes and its rules.
 ghost use mathlib.Core.Path.{_≡_};
+ghost use mathlib.Core.Bool.{_&&_};
 ghost use Prim.Native.Nat.{_≤_};
+ghost use lib.Dec.{ltb};
 ghost use lib.ListN.{length, getD};
 ghost use Rattle.layout.specs.Bytes.{all};
 ghost use Rattle.layout.specs.Vpd.{groups, keyedHead, vpdHead, keyByte, vpdReaderKey, vpdWriterKey, vpdRule};
@@ -8,36 +10,22 @@ use layout::Head;
 use layout::Headed;
 use layout::Length;
 
-fn wide(x: u8) -> usize
-    ensures { λ r. ⌜ r ≡ x ⌝ }
-{
-    x as usize
-}
-
-fn code_of(x: u8) -> u32
-    ensures { λ r. ⌜ r ≡ x ⌝ }
-{
-    x as u32
-}
-
 // The length that begins at `start`: seven bits a byte, at most four bytes.
 pub fn group_length(s: &[u8], start: usize) -> Length
     ensures { λ r. ⌜ r ≡ groups 4 0 start (now (s .entry)) ⌝ }
 {
     let mut n: usize = 0;
     let mut at = start;
-    let mut left: usize = 4;
-    while 0 < left {
+    for _ in 0u32..4 {
         if s.len() <= at {
             return Length::Fails(5);
         }
-        let b = wide(s[at]);
-        if b < 128 {
-            return Length::Reads(n * 128 + b, at + 1);
-        }
-        n = n * 128 + (b - 128);
+        let b = s[at];
+        n = n * 128 + (b % 128) as usize;
         at += 1;
-        left -= 1;
+        if b < 128 {
+            return Length::Reads(n, at);
+        }
     }
     Length::Fails(6)
 }
@@ -71,44 +59,33 @@ pub fn vpd_head(s: &[u8]) -> Headed
     if s.len() <= 0 {
         return Headed::Wrong(5);
     }
-    let code = code_of(s[0]);
-    if code == 0x00 {
-        return Headed::Ends;
-    }
-    if code == 0xFF {
-        return Headed::Ends;
-    }
-    if code == 0x01 {
-        return keyed_head(s, code);
-    }
-    if code == 0xFE {
-        return keyed_head(s, code);
-    }
-    Headed::Wrong(6)
-}
-
-// A byte of a key.
-fn key_byte(b: u8) -> bool
-    ensures { λ r. ⌜ r ≡ keyByte b ⌝ }
-{
-    match b {
-        0x61..=0x7A => true,
-        0x41..=0x5A => true,
-        0x30..=0x39 => true,
-        0x5F => true,
-        _ => false,
+    let code = s[0] as u32;
+    match code {
+        0x00 | 0xFF => Headed::Ends,
+        0x01 | 0xFE => keyed_head(s, code),
+        _ => Headed::Wrong(6),
     }
 }
 
-fn all_key_bytes(key: &[u8]) -> bool
-    ensures { λ r. ⌜ r ≡ all keyByte (now (key .entry)) ⌝ }
+// The rule on the key of a 01h: it is not empty, and all its bytes are bytes of a key.
+fn key_rule(key: &[u8]) -> bool
+    ensures { λ r. ⌜ r ≡ (ltb 0 (length (now (key .entry))) && all keyByte (now (key .entry))) ⌝ }
 {
+    if key.len() <= 0 {
+        return false;
+    }
     let mut i = 0;
     while i < key.len() {
-        if !key_byte(key[i]) {
+        let b = key[i];
+        if ((0x61 <= b) & (b <= 0x7A))
+            | ((0x41 <= b) & (b <= 0x5A))
+            | ((0x30 <= b) & (b <= 0x39))
+            | (b == 0x5F)
+        {
+            i += 1;
+        } else {
             return false;
         }
-        i += 1;
     }
     true
 }
@@ -116,32 +93,17 @@ fn all_key_bytes(key: &[u8]) -> bool
 pub fn vpd_reader_key(code: u32, key: &[u8]) -> bool
     ensures { λ r. ⌜ r ≡ vpdReaderKey code (now (key .entry)) ⌝ }
 {
-    if code != 0x01 {
-        return true;
-    }
-    if key.len() <= 0 {
-        return false;
-    }
-    all_key_bytes(key)
+    if code == 0x01 { key_rule(key) } else { true }
 }
 
 pub fn vpd_writer_key(code: u32, key: &[u8]) -> bool
     ensures { λ r. ⌜ r ≡ vpdWriterKey code (now (key .entry)) ⌝ }
 {
-    if code != 0x01 {
-        return true;
-    }
-    if key.len() <= 0 {
-        return false;
-    }
-    all_key_bytes(key)
+    if code == 0x01 { key_rule(key) } else { true }
 }
 
 pub fn vpd_rule(code: u32, v: &[u8]) -> bool
     ensures { λ r. ⌜ r ≡ vpdRule code (now (v .entry)) ⌝ }
 {
-    if code != 0xFE {
-        return true;
-    }
-    v.len() == 4
+    if code == 0xFE { v.len() == 4 } else { true }
 }

@@ -1,4 +1,4 @@
--- `parts::byte_length` meets its contract.
+-- `parts::byte_length` meets its contract: one test of the place.
 -- Assumes nothing.
 use borrow.Author.Needs.{needs}
 use Rattle.parts.proofs.Tests.{tests}
@@ -15,10 +15,10 @@ add-t10 : tie.Need-add-t10
 add-t10 c = search needs
 
 returns : tie.Need-returns
-returns c = search (needs, tests)
+returns c = search tests
 
 returns-2 : tie.Need-returns-2
-returns-2 c = search (needs, tests)
+returns-2 c = search tests
 
 pub byte-length-spec : {M : Type 1} → statement M
 byte-length-spec =

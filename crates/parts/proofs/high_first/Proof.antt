@@ -1,4 +1,4 @@
--- `parts::high_first` meets its contract.
+-- `parts::high_first` meets its contract: a loop that takes in each byte that is there.
 -- Assumes nothing.
 use Prim.Native.Nat.{_-_}
 use native.Mathlib.Nat.{one-le-pow}
@@ -20,7 +20,7 @@ loop-holds c = search (needs, one-le-pow)
 returns : tie.Need-returns Inv-loop μ-loop
 returns c =
     let inv = c .before .before .loop .inv in
-    taken _ _ _ _ _ inv (none-there _ _ _ _ _ inv (c .if1 .taken))
+    taken _ _ _ _ _ inv (none-there _ _ _ (c .if1 .taken))
 
 mul-r : tie.Need-mul-r Inv-loop μ-loop
 mul-r c = omega (arith, small _ _ _ _ _ (c .before .before .loop .inv) (search needs) (search needs))
@@ -50,7 +50,7 @@ loop-again c =
 returns-2 : tie.Need-returns-2 Inv-loop μ-loop
 returns-2 c =
     let inv = c .before .loop .inv in
-    taken _ _ _ _ _ inv (none-asked _ _ _ _ _ inv (search needs))
+    taken _ _ _ _ _ inv (none-asked _ _ _ (search needs))
 
 pub high-first-spec : {M : Type 1} → statement M
 high-first-spec =

@@ -1,8 +1,8 @@
--- `parts::same_bytes` meets its contract.
+-- `parts::same_bytes` meets its contract: a test of the lengths, and a loop that compares the bytes.
 -- Assumes nothing.
 use Prim.Native.Nat.{_-_}
-use borrow.Author.Needs.{needs}
 use lib.ListN.{length}
+use borrow.Author.Needs.{needs}
 use Rattle.parts.proofs.Loops.{unlike, Matching, matches, differs, matched}
 use Rattle.parts.proofs.same_bytes.Statement.{statement}
 use Rattle.parts.proofs.same_bytes.Tie as tie

@@ -1,0 +1,263 @@
+//! Generated field lists for a write.
+
+use crate::generate::{broken, kept, named, offered};
+use crate::image::{Format, LONGEST, POOL, VPD_INFO, VPD_STRING};
+use crate::random::Random;
+use crate::{fboss, vpd};
+
+/// A field's five words: code, key place, key length, value place, value length.
+type Field = [u32; 5];
+
+/// The words of a field by number.
+const CODE: usize = 0;
+const KEY: usize = 1;
+const VALUE: usize = 3;
+
+/// A field list and the values in which its parts lie.
+pub struct List {
+    fields: Vec<Field>,
+    pub values: Vec<u8>,
+    /// The first bytes of a field that is cut short.
+    cut: Vec<u8>,
+}
+
+impl List {
+    pub fn new() -> List {
+        List {
+            fields: Vec::new(),
+            values: Vec::new(),
+            cut: Vec::new(),
+        }
+    }
+
+    /// Adds a field whose parts are put at the end of the values.
+    pub fn add(&mut self, code: u32, key: &[u8], value: &[u8]) {
+        let key = self.part(key);
+        let value = self.part(value);
+        self.fields.push([code, key[0], key[1], value[0], value[1]]);
+    }
+
+    fn part(&mut self, bytes: &[u8]) -> [u32; 2] {
+        let place = self.values.len();
+        self.values.extend(bytes);
+        [place as u32, bytes.len() as u32]
+    }
+
+    /// The fields as they lie in lent bytes.
+    pub fn bytes(&self) -> Vec<u8> {
+        let words = self.fields.iter().flatten();
+        let mut bytes: Vec<u8> = words.flat_map(|word| word.to_le_bytes()).collect();
+        bytes.extend(&self.cut);
+        bytes
+    }
+}
+
+/// A list for an edition, with up to three things wrong in most.
+pub fn list(random: &mut Random, format: Format, edition: u32) -> List {
+    let mut list = List::new();
+    let mut codes = codes(random, format, edition);
+    if random.once_in(3) {
+        random.shuffle(&mut codes);
+    }
+    if format == Format::Tiny && !random.once_in(8) {
+        // The pool has to be the last.
+        codes.sort_by_key(|&code| code == POOL);
+    }
+    let careful = random.once_in(2);
+    for code in codes {
+        let key = match format {
+            Format::Vpd if !careful && random.once_in(12) => vpd::broken_key(random),
+            Format::Vpd => vpd::kept_key(random, code),
+            _ => Vec::new(),
+        };
+        let value = match careful || !random.once_in(12) {
+            true => kept(random, format, code),
+            false => offered(random, format, code),
+        };
+        if random.once_in(10) {
+            let gap = random.between(1, 9);
+            list.values.extend(random.bytes(gap));
+        }
+        list.add(u32::from(code), &key, &value);
+    }
+    if format != Format::Vpd && random.once_in(2) {
+        // Outside VPD a key is not looked at, wherever it lies.
+        for field in &mut list.fields {
+            field[KEY] = random.number() as u32;
+            field[KEY + 1] = random.number() as u32;
+        }
+    }
+    for _ in 0..random.pick(&[0, 0, 1, 1, 2, 3]) {
+        spoil(random, format, &mut list);
+    }
+    if random.once_in(6) {
+        let length = random.between(1, 19);
+        list.cut = match list.fields.first() {
+            Some(first) if random.once_in(2) => {
+                let whole: Vec<u8> = first.iter().flat_map(|word| word.to_le_bytes()).collect();
+                whole[..length].to_vec()
+            }
+            _ => random.bytes(length),
+        };
+    }
+    list
+}
+
+fn codes(random: &mut Random, format: Format, edition: u32) -> Vec<u8> {
+    let named = named(format, edition);
+    match format {
+        Format::Fboss => {
+            let often = random.between(1, 6);
+            named
+                .into_iter()
+                .filter(|code| fboss::REQUIRED.contains(code) || random.once_in(often))
+                .collect()
+        }
+        Format::Vpd => {
+            let count = random.pick(&[0, 1, 1, 2, 3, 5, 10]);
+            let mut codes = vec![VPD_STRING; count];
+            if named.contains(&VPD_INFO) && random.once_in(2) {
+                codes.push(VPD_INFO);
+            }
+            codes
+        }
+        Format::Tiny => {
+            let often = random.between(1, 4);
+            named
+                .into_iter()
+                .filter(|_| random.once_in(often))
+                .collect()
+        }
+    }
+}
+
+/// Does one thing to a list that in most cases makes it wrong.
+fn spoil(random: &mut Random, format: Format, list: &mut List) {
+    let count = list.fields.len();
+    if count == 0 {
+        return;
+    }
+    let at = random.below(count);
+    let end = list.values.len() as u32;
+    match random.below(12) {
+        // A code that the edition does not name, or that no entry has.
+        0 => {
+            let code = list.fields[at][CODE];
+            list.fields[at][CODE] = match random.below(4) {
+                0 => random.pick(&[0, 2, 17, 20, 21, 0x20, 0x80, 0x81, 249, 250, 254, 255]),
+                1 => random.pick(&[code + 256, code << 8, code | 1 << 31, u32::MAX]),
+                2 => random.number() as u32,
+                _ => random.below(256) as u32,
+            };
+        }
+        // A part that is not inside the values, or just is.
+        1..=3 => {
+            let part = random.pick(&[KEY, VALUE, VALUE]);
+            let place = list.fields[at][part];
+            let length = list.fields[at][part + 1];
+            let (place, length) = random.pick(&[
+                (end, 0),
+                (end + 1, 0),
+                (end, 1),
+                (place, end - place.min(end)),
+                (place, (end - place.min(end)) + 1),
+                (place, u32::MAX),
+                (u32::MAX, length),
+                (u32::MAX, u32::MAX),
+                (u32::MAX, 0),
+                // The sum wraps to a place inside.
+                (length.wrapping_neg(), length),
+                (place, place.wrapping_neg()),
+                (place.wrapping_add(1 << 31), 1 << 31),
+            ]);
+            list.fields[at][part] = place;
+            list.fields[at][part + 1] = length;
+        }
+        // A field that comes a second time: the same parts, or the same code with another value.
+        4 | 5 => {
+            let mut again = list.fields[at];
+            if random.once_in(2) {
+                let value = kept(random, format, again[CODE] as u8);
+                let value = list.part(&value);
+                again[VALUE..].copy_from_slice(&value);
+            }
+            list.fields.insert(random.between(at, count), again);
+        }
+        // A field that is missing.
+        6 => {
+            list.fields.remove(at);
+        }
+        // A value that breaks its rule.
+        7 | 8 => {
+            let value = broken(random, format, list.fields[at][CODE] as u8);
+            let value = list.part(&value);
+            list.fields[at][VALUE..].copy_from_slice(&value);
+        }
+        // A value of a length on either side of a line.
+        9 => {
+            let value = offered(random, format, list.fields[at][CODE] as u8);
+            let value = list.part(&value);
+            list.fields[at][VALUE..].copy_from_slice(&value);
+        }
+        // A field after the pool, in Tiny.
+        10 => {
+            let code = random.pick(&named(format, 2));
+            let value = offered(random, format, code);
+            list.add(u32::from(code), b"late", &value);
+        }
+        // Two fields change places.
+        _ => {
+            let other = random.below(count);
+            list.fields.swap(at, other);
+        }
+    }
+}
+
+/// A list whose image has thousands of bytes, or more than an output may have.
+pub fn large(random: &mut Random, format: Format) -> List {
+    let mut list = List::new();
+    match format {
+        Format::Fboss => {
+            for code in named(format, 2) {
+                let value = match code {
+                    3..=5 | 8..=10 | 13 | 17..=20 => kept(random, format, code),
+                    _ => vec![b'x'; 255],
+                };
+                list.add(u32::from(code), &[], &value);
+            }
+        }
+        Format::Vpd => match random.below(3) {
+            // Many keys, to the largest number that an output can hold and one more.
+            0 => {
+                for number in 0..random.pick(&[3_000, 11_604, 11_605, 11_606]) {
+                    list.add(1, &vpd::numbered_key(number), &[]);
+                }
+            }
+            // One value that fills the output, or is one byte too long for it.
+            1 => {
+                let length = random.pick(&[16_383, 16_384, LONGEST - 7, LONGEST - 6, 70_000]);
+                list.add(1, b"A", &random.bytes(length));
+            }
+            // Parts that overlap: together they are far longer than the values.
+            _ => {
+                list.values = random.picks(b"abc_XYZ019", 70_000);
+                for number in 0..random.pick(&[2, 40, 400]) {
+                    let key = number * 100;
+                    list.fields.push([1, key, 20, number, 60_000]);
+                }
+            }
+        },
+        Format::Tiny => {
+            let length = random.pick(&[248, 249, 250, 255, 256, 70_000]);
+            let pool = random.bytes(length);
+            if random.once_in(2) {
+                list.add(0x10, &[], &[0]);
+            }
+            list.add(u32::from(POOL), &[], &pool);
+        }
+    }
+    if random.once_in(4) {
+        spoil(random, format, &mut list);
+    }
+    list
+}

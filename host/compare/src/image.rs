@@ -1,0 +1,186 @@
+//! An image as its entries, and its bytes.
+
+use crate::checks::{check16, check8};
+use crate::random::Random;
+
+/// No image and no output is longer than this (01, Numbers given back).
+pub const LONGEST: usize = 65_536;
+
+/// The first bytes of an FBOSS image.
+pub const FBOSS_HEADER: [u8; 4] = [0xFB, 0xFB, 0x05, 0xFF];
+/// The code that ends an FBOSS image.
+pub const FBOSS_END: u8 = 250;
+/// The tag of the Tiny strings pool.
+pub const POOL: u8 = 0x01;
+/// The VPD type of an ordinary key and value.
+pub const VPD_STRING: u8 = 0x01;
+/// The VPD type of the info header.
+pub const VPD_INFO: u8 = 0xFE;
+
+#[derive(Clone, Copy, PartialEq, Eq)]
+pub enum Format {
+    Fboss,
+    Vpd,
+    Tiny,
+}
+
+pub const FORMATS: [Format; 3] = [Format::Fboss, Format::Vpd, Format::Tiny];
+
+impl Format {
+    pub fn number(self) -> u32 {
+        match self {
+            Format::Fboss => 1,
+            Format::Vpd => 2,
+            Format::Tiny => 3,
+        }
+    }
+
+    pub fn header_length(self) -> usize {
+        match self {
+            Format::Fboss => 4,
+            Format::Vpd => 0,
+            Format::Tiny => 3,
+        }
+    }
+}
+
+/// One entry. Outside VPD the key and the zero groups are not written.
+#[derive(Clone)]
+pub struct Entry {
+    pub code: u8,
+    pub key: Vec<u8>,
+    pub value: Vec<u8>,
+    /// How many zero groups stand before the shortest form of the key's length, and of the value's.
+    pub zero_groups: [usize; 2],
+}
+
+impl Entry {
+    pub fn new(code: u8, value: Vec<u8>) -> Entry {
+        Entry::with_key(code, Vec::new(), value)
+    }
+
+    pub fn with_key(code: u8, key: Vec<u8>, value: Vec<u8>) -> Entry {
+        Entry {
+            code,
+            key,
+            value,
+            zero_groups: [0, 0],
+        }
+    }
+
+    /// The entry's bytes. A length that its byte can't hold is cut, so that the frame is a wrong one.
+    pub fn bytes(&self, format: Format) -> Vec<u8> {
+        let mut bytes = vec![self.code];
+        match format {
+            Format::Fboss => bytes.push(self.value.len() as u8),
+            Format::Vpd => {
+                bytes.extend(vpd_length(self.key.len(), self.zero_groups[0]));
+                bytes.extend(&self.key);
+                bytes.extend(vpd_length(self.value.len(), self.zero_groups[1]));
+            }
+            Format::Tiny if self.code >> 4 == 0 => bytes.push(self.value.len() as u8),
+            Format::Tiny => {}
+        }
+        bytes.extend(&self.value);
+        bytes
+    }
+}
+
+/// A VPD length, with zero groups before its shortest form as far as four bytes allow.
+fn vpd_length(length: usize, zero_groups: usize) -> Vec<u8> {
+    let shortest = (1..4)
+        .find(|groups| length >> (7 * groups) == 0)
+        .unwrap_or(4);
+    let groups = (shortest + zero_groups).min(4);
+    (0..groups)
+        .rev()
+        .map(|group| (length >> (7 * group)) as u8 & 0x7F | if group > 0 { 0x80 } else { 0 })
+        .collect()
+}
+
+#[derive(Clone)]
+pub struct Image {
+    pub format: Format,
+    pub entries: Vec<Entry>,
+    /// The byte that ends a VPD image: 00h or FFh.
+    pub vpd_end: u8,
+    /// What follows the image's end.
+    pub after: Vec<u8>,
+}
+
+impl Image {
+    pub fn new(format: Format, entries: Vec<Entry>) -> Image {
+        Image {
+            format,
+            entries,
+            vpd_end: 0x00,
+            after: Vec::new(),
+        }
+    }
+
+    /// The image's bytes, with right checks and, where one byte can hold it, the right L.
+    pub fn bytes(&self) -> Vec<u8> {
+        let mut bytes = match self.format {
+            Format::Fboss => FBOSS_HEADER.to_vec(),
+            Format::Vpd => Vec::new(),
+            Format::Tiny => vec![0x56, 0x02, 0x00],
+        };
+        for entry in &self.entries {
+            bytes.extend(entry.bytes(self.format));
+        }
+        match self.format {
+            Format::Fboss => {
+                let check = check16(&bytes);
+                bytes.extend([FBOSS_END, 2]);
+                bytes.extend(check.to_be_bytes());
+            }
+            Format::Vpd => bytes.push(self.vpd_end),
+            Format::Tiny => {
+                bytes[2] = (bytes.len() + 1) as u8;
+                bytes.push(check8(&bytes));
+            }
+        }
+        bytes.extend(&self.after);
+        bytes
+    }
+}
+
+/// Makes the check of a damaged image right again, where the image still has a place for one.
+pub fn seal(format: Format, bytes: &mut [u8]) {
+    match format {
+        Format::Fboss => {
+            let mut place = FBOSS_HEADER.len();
+            while place + 4 <= bytes.len() {
+                if bytes[place] == FBOSS_END {
+                    let check = check16(&bytes[..place]).to_be_bytes();
+                    bytes[place + 2..place + 4].copy_from_slice(&check);
+                    return;
+                }
+                place += 2 + usize::from(bytes[place + 1]);
+            }
+        }
+        Format::Vpd => {}
+        Format::Tiny => {
+            let length = bytes.get(2).copied().map_or(0, usize::from);
+            if (4..=bytes.len()).contains(&length) {
+                bytes[length - 1] = check8(&bytes[..length - 1]);
+            }
+        }
+    }
+}
+
+/// Bytes for after an image's end: none, a few, or as many as bring it to a given size.
+pub fn after_the_end(random: &mut Random, length: usize) -> Vec<u8> {
+    let count = match random.below(200) {
+        0 => LONGEST.saturating_sub(length),
+        1 => (LONGEST + 1).saturating_sub(length),
+        2 => 8192_usize.saturating_sub(length),
+        3..=99 => random.between(1, 20),
+        _ => 0,
+    };
+    match random.below(3) {
+        0 => vec![0xFF; count],
+        1 => vec![0x00; count],
+        _ => random.bytes(count),
+    }
+}

@@ -1,0 +1,76 @@
+//! The eight calls of libboardid.a, as C declares them.
+//!
+//! A slice goes out as a pointer and a length, and a length of 0 goes with any pointer. Every call
+//! is safe where its pointers are good for their lengths and where what it writes overlaps nothing
+//! else that it is lent.
+
+extern "C" {
+    pub fn boardid_check(format: u32, edition: u32, image: *const u8, image_length: usize) -> u64;
+
+    pub fn boardid_list(
+        format: u32,
+        edition: u32,
+        image: *const u8,
+        image_length: usize,
+        records: *mut u8,
+        records_length: usize,
+    ) -> u64;
+
+    pub fn boardid_entry(
+        format: u32,
+        edition: u32,
+        image: *const u8,
+        image_length: usize,
+        n: u64,
+        record: *mut u8,
+        record_length: usize,
+    ) -> u64;
+
+    pub fn boardid_value(
+        format: u32,
+        edition: u32,
+        image: *const u8,
+        image_length: usize,
+        n: u64,
+    ) -> u64;
+
+    pub fn boardid_string(
+        format: u32,
+        edition: u32,
+        image: *const u8,
+        image_length: usize,
+        number: u64,
+    ) -> u64;
+
+    pub fn boardid_step(
+        walk: *mut u8,
+        walk_length: usize,
+        image: *const u8,
+        image_length: usize,
+        record: *mut u8,
+        record_length: usize,
+    ) -> u64;
+
+    pub fn boardid_write(
+        format: u32,
+        edition: u32,
+        fields: *const u8,
+        fields_length: usize,
+        values: *const u8,
+        values_length: usize,
+        out: *mut u8,
+        out_length: usize,
+    ) -> u64;
+
+    pub fn boardid_edit(
+        format: u32,
+        edition: u32,
+        image: *const u8,
+        image_length: usize,
+        n: u64,
+        value: *const u8,
+        value_length: usize,
+        out: *mut u8,
+        out_length: usize,
+    ) -> u64;
+}
