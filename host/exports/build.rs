@@ -5,6 +5,7 @@
 
 use std::env;
 use std::path::Path;
+use std::process::exit;
 
 fn main() {
     let crate_folder = env::var("CARGO_MANIFEST_DIR").expect("cargo gives the crate's folder");
@@ -15,10 +16,9 @@ fn main() {
     println!("cargo:rerun-if-env-changed=BOARDID_LIB");
     println!("cargo:rerun-if-changed={}", archive.display());
     if !archive.is_file() {
-        panic!(
-            "there is no {}: run `rt staticlib boardid`, or set BOARDID_LIB to the folder of the archive",
-            archive.display()
-        );
+        eprintln!("there is no {}", archive.display());
+        eprintln!("run `rt staticlib boardid`, or set BOARDID_LIB to the folder of the archive");
+        exit(1);
     }
     println!("cargo:rustc-link-search=native={}", folder.display());
     println!("cargo:rustc-link-lib=static=boardid");

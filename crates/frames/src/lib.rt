@@ -1,6 +1,6 @@
 // What a call's format and edition come to, and what stands at a place of an image, for any format.
 ghost use mathlib.Core.Path.{_≡_};
-ghost use Prim.Native.Nat.{_-_};
+ghost use Prim.Native.Nat.{_-_, _*_, _<_};
 ghost use Rattle.layout.specs.Bytes.{part};
 ghost use Rattle.layout.specs.Shape.{next};
 ghost use Rattle.layout.specs.Editions.{shape, withEdition, chosen, names, kind};
@@ -20,13 +20,10 @@ use layout::Reading;
 fn with_edition(edition: u32, format: Format) -> Chosen
     ensures { λ r. ⌜ r ≡ withEdition edition format ⌝ }
 {
-    if edition < 1 {
-        return Chosen::Unknown(1);
+    if (1 <= edition) & (edition <= 2) {
+        return Chosen::Known(format);
     }
-    if 2 < edition {
-        return Chosen::Unknown(1);
-    }
-    Chosen::Known(format)
+    Chosen::Unknown(1)
 }
 
 // The format and edition of a call: 16, then 1.
@@ -50,28 +47,46 @@ pub fn is_named(format: Format, edition: u32, code: u32) -> bool
     ensures { λ r. ⌜ r ≡ names (shape format) edition code ⌝ }
 {
     match format {
-        Format::Fboss => match code {
-            1..=16 => 1 <= edition,
-            17..=20 => 2 <= edition,
-            _ => false,
-        },
-        Format::Vpd => match code {
-            0x01 => 1 <= edition,
-            0xFE => 2 <= edition,
-            _ => false,
-        },
-        Format::Tiny => match code {
-            0x01 => 1 <= edition,
-            0x10..=0x11 => 1 <= edition,
-            0x60..=0x62 => 1 <= edition,
-            0x80..=0x81 => 2 <= edition,
-            _ => false,
-        },
+        Format::Fboss => {
+            if (1 <= code) & (code <= 16) {
+                return 1 <= edition;
+            }
+            if (17 <= code) & (code <= 20) {
+                return 2 <= edition;
+            }
+            false
+        }
+        Format::Vpd => {
+            if (0x01 <= code) & (code <= 0x01) {
+                return 1 <= edition;
+            }
+            if (0xFE <= code) & (code <= 0xFE) {
+                return 2 <= edition;
+            }
+            false
+        }
+        Format::Tiny => {
+            if (0x01 <= code) & (code <= 0x01) {
+                return 1 <= edition;
+            }
+            if (0x10 <= code) & (code <= 0x11) {
+                return 1 <= edition;
+            }
+            if (0x60 <= code) & (code <= 0x62) {
+                return 1 <= edition;
+            }
+            if (0x80 <= code) & (code <= 0x81) {
+                return 2 <= edition;
+            }
+            false
+        }
     }
 }
 
 // The format's number times 256.
-fn kind_base(format: Format) -> u32 {
+fn kind_base(format: Format) -> u32
+    ensures { λ r. ⌜ (r ≡ shape format .number * 256) × (r < 1024) ⌝ }
+{
     match format {
         Format::Fboss => 256,
         Format::Vpd => 512,
@@ -240,19 +255,8 @@ pub fn is_complete(format: Format, seen: &[u8; 256]) -> bool
 {
     match format {
         Format::Fboss => {
-            if seen[1] == 0 {
-                return false;
-            }
-            if seen[8] == 0 {
-                return false;
-            }
-            if seen[9] == 0 {
-                return false;
-            }
-            if seen[10] == 0 {
-                return false;
-            }
-            seen[11] != 0
+            (seen[1] != 0)
+                & ((seen[8] != 0) & ((seen[9] != 0) & ((seen[10] != 0) & (seen[11] != 0))))
         }
         Format::Vpd => true,
         Format::Tiny => true,

@@ -10,6 +10,7 @@ pub mod Judging
 pub mod LengthBytes
 pub mod Lists
 pub mod Marks
+pub mod Names
 pub mod OneByte
 pub mod Passes
 pub mod Records

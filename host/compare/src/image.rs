@@ -34,14 +34,6 @@ impl Format {
             Format::Tiny => 3,
         }
     }
-
-    pub fn header_length(self) -> usize {
-        match self {
-            Format::Fboss => 4,
-            Format::Vpd => 0,
-            Format::Tiny => 3,
-        }
-    }
 }
 
 /// One entry. Outside VPD the key and the zero groups are not written.

@@ -1,0 +1,48 @@
+-- `frames::open_image` meets its contract: the header of each format.
+-- Assumes nothing.
+use borrow.Author.Needs.{needs}
+use Rattle.layout.specs.Fboss.{fboss}
+use Rattle.layout.specs.Vpd.{vpd}
+use Rattle.layout.specs.Tiny.{tiny}
+use Rattle.frames.proofs.open_image.Statement.{statement}
+use Rattle.frames.proofs.open_image.Tie as tie
+
+enum-told : tie.Need-enum-told
+enum-told c = search needs
+
+fboss-opened-requires : tie.Need-fboss-opened-requires
+fboss-opened-requires c κs = search needs
+
+enum-told-2 : tie.Need-enum-told-2
+enum-told-2 c = search needs
+
+enum-told-3 : tie.Need-enum-told-3
+enum-told-3 c = search needs
+
+tiny-opened-requires : tie.Need-tiny-opened-requires
+tiny-opened-requires c κs = search needs
+
+returns : tie.Need-returns
+unfolding fboss
+returns c = rw (c .before .enum-told .given .1) (c .fboss-opened .ensures)
+
+returns-2 : tie.Need-returns-2
+unfolding vpd
+returns-2 c = rw (c .enum-told2 .given .1)
+
+returns-3 : tie.Need-returns-3
+unfolding tiny
+returns-3 c = rw (c .before .enum-told3 .given .1) (c .tiny-opened .ensures)
+
+pub open-image-spec : {M : Type 1} → statement M
+open-image-spec =
+    tie.close
+    (tie.spec
+    enum-told
+    fboss-opened-requires
+    enum-told-2
+    enum-told-3
+    tiny-opened-requires
+    returns
+    returns-2
+    returns-3)

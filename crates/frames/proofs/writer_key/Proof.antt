@@ -1,0 +1,44 @@
+-- `frames::writer_key` meets its contract: the writer's rule on keys, in each format.
+-- Assumes nothing.
+use borrow.Author.Needs.{needs}
+use Rattle.layout.specs.Fboss.{fboss}
+use Rattle.layout.specs.Vpd.{vpd}
+use Rattle.layout.specs.Tiny.{tiny}
+use Rattle.frames.proofs.writer_key.Statement.{statement}
+use Rattle.frames.proofs.writer_key.Tie as tie
+
+enum-told : tie.Need-enum-told
+enum-told c = search needs
+
+enum-told-2 : tie.Need-enum-told-2
+enum-told-2 c = search needs
+
+vpd-writer-key-requires : tie.Need-vpd-writer-key-requires
+vpd-writer-key-requires c κs = search needs
+
+enum-told-3 : tie.Need-enum-told-3
+enum-told-3 c = search needs
+
+returns : tie.Need-returns
+unfolding fboss
+returns c = rw (c .enum-told .given .1)
+
+returns-2 : tie.Need-returns-2
+unfolding vpd
+returns-2 c = rw (c .before .enum-told2 .given .1) (c .vpd-writer-key .ensures)
+
+returns-3 : tie.Need-returns-3
+unfolding tiny
+returns-3 c = rw (c .enum-told3 .given .1)
+
+pub writer-key-spec : {M : Type 1} → statement M
+writer-key-spec =
+    tie.close
+    (tie.spec
+    enum-told
+    enum-told-2
+    vpd-writer-key-requires
+    enum-told-3
+    returns
+    returns-2
+    returns-3)

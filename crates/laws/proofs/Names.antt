@@ -1,0 +1,35 @@
+-- A code that an edition names is a byte.
+-- Assumes nothing.
+use Prim.Native.Nat.{ℕ, _≤_, _<_}
+use mathlib.Core.Path.{_≡_, refl}
+use mathlib.Core.List.{List, [], _∷_}
+use mathlib.Core.Bool.{Bool, true, false, _&&_}
+use native.Mathlib.Omega.{arith}
+use lib.Dec.{leb}
+use borrow.Author.Tests.{leb-true}
+use Rattle.layout.specs.declared.Format.{Format}
+use Rattle.layout.specs.declared.Format.the-variants.{Fboss, Vpd, Tiny}
+use Rattle.layout.specs.Bytes.{if, between}
+use Rattle.layout.specs.Shape.{Naming}
+use Rattle.layout.specs.Fboss.{fboss}
+use Rattle.layout.specs.Vpd.{vpd}
+use Rattle.layout.specs.Tiny.{tiny}
+use Rattle.layout.specs.Editions.{shape, from, never, sinceIn, reached, names}
+use Rattle.laws.specs.Grammar.{Each, none, also}
+use Rattle.laws.proofs.Choices.{false-true, both}
+
+named-below : (ns : List Naming) (e c : ℕ) → Each (λ n. n .last < 256) ns → reached (sinceIn ns c) e ≡ true → c < 256
+unfolding sinceIn
+named-below [] e c none h = false-true h
+named-below (n ∷ ns) e c (also lt lts) h = go (between (n .first) (n .last) c) refl h (named-below ns e c lts)
+  where
+    go : (b : Bool) → between (n .first) (n .last) c ≡ b → reached (if b (λ _. from (n .edition)) (λ _. sinceIn ns c)) e ≡ true →
+        (reached (sinceIn ns c) e ≡ true → c < 256) → c < 256
+    go true t h rest = let w = both (leb (n .first) c) (leb c (n .last)) t in omega (arith, leb-true c (n .last) (w .1))
+    go false t h rest = rest h
+
+pub named-byte : (f : Format) (e c : ℕ) → names (shape f) e c ≡ true → c < 256
+unfolding names fboss vpd tiny
+named-byte Fboss e c h = named-below (fboss .namings) e c (also (omega arith) (also (omega arith) none)) h
+named-byte Vpd e c h = named-below (vpd .namings) e c (also (omega arith) (also (omega arith) none)) h
+named-byte Tiny e c h = named-below (tiny .namings) e c (also (omega arith) (also (omega arith) (also (omega arith) (also (omega arith) none)))) h

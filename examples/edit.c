@@ -1,0 +1,292 @@
+/*
+ * edit: gives one entry of an image file a new value.
+ *
+ *     edit [-x] [-s SIZE] fboss|vpd|tiny FILE ENTRY VALUE
+ *
+ * ENTRY is the entry's number, as the example list prints it. VALUE is the new value as text; with
+ * -x it is bytes in hexadecimal, which may be parted by colons or spaces. The file keeps its size,
+ * or gets that of -s; its bytes after the image's end become FFh.
+ *
+ * The file is either the old one or the new one, whole, at any time: the new image is made in a
+ * second buffer, written to a temporary file beside the old one, brought to the disk, and only then
+ * given the old one's name. Its permissions and its owner stay. Where anything is refused or fails,
+ * the file stays as it was.
+ *
+ * Exit status: 0 edited, 1 the library refused the edit, 2 a wrong command line, 3 the file could
+ * not be read or written.
+ */
+#define _XOPEN_SOURCE 700
+
+#include <fcntl.h>
+#include <libgen.h>
+#include <sys/stat.h>
+#include <sys/types.h>
+#include <unistd.h>
+
+#include "image_file.h"
+
+/* A number in decimal; returns 0, or -1 where the word is none or is above the limit. */
+static int number_of_word(const char *word, unsigned long long limit, unsigned long long *number)
+{
+    char *end;
+
+    if (word[0] < '0' || word[0] > '9') {
+        return -1;
+    }
+    errno = 0;
+    *number = strtoull(word, &end, 10);
+    return errno == 0 && *end == '\0' && *number <= limit ? 0 : -1;
+}
+
+/* The value of a hexadecimal digit; -1 of any other character. */
+static int hex_digit(char character)
+{
+    static const char digits[] = "0123456789abcdefABCDEF";
+    const char *found = character != '\0' ? strchr(digits, character) : NULL;
+
+    if (found == NULL) {
+        return -1;
+    }
+    return found - digits < 16 ? (int)(found - digits) : (int)(found - digits) - 6;
+}
+
+/* The bytes of a new value. */
+struct new_value {
+    uint8_t *bytes;
+    size_t length;
+};
+
+/*
+ * Puts bytes written in hexadecimal into a value that has room for as many bytes as the word has
+ * characters. Returns 0, or -1 where the word is no such bytes.
+ */
+static int bytes_of_word(const char *word, struct new_value *value)
+{
+    value->length = 0;
+    while (*word != '\0') {
+        int high = hex_digit(word[0]);
+        int low = high >= 0 ? hex_digit(word[1]) : -1;
+
+        if (low < 0) {
+            return -1;
+        }
+        value->bytes[value->length++] = (uint8_t)(high * 16 + low);
+        word += 2;
+        if ((*word == ':' || *word == ' ') && word[1] != '\0') {
+            word++;
+        }
+    }
+    return 0;
+}
+
+/* Writes all bytes to a file descriptor and brings them to the disk; returns 0, or -1 with errno. */
+static int write_through(int descriptor, const uint8_t *bytes, size_t length)
+{
+    while (length > 0) {
+        ssize_t written = write(descriptor, bytes, length);
+
+        if (written < 0) {
+            if (errno == EINTR) {
+                continue;
+            }
+            return -1;
+        }
+        bytes += written;
+        length -= (size_t)written;
+    }
+    return fsync(descriptor);
+}
+
+/* Brings the name of a file to the disk, which its folder holds; returns 0, or -1 with errno set. */
+static int sync_folder(const char *path)
+{
+    char *copy = strdup(path);
+    int descriptor, result, error;
+
+    if (copy == NULL) {
+        return -1;
+    }
+    descriptor = open(dirname(copy), O_RDONLY);
+    free(copy);
+    if (descriptor < 0) {
+        return -1;
+    }
+    result = fsync(descriptor);
+    error = errno;
+    close(descriptor);
+    errno = error;
+    return result;
+}
+
+/* Gives an open file the permissions and the owner of the old one; returns 0, or -1 with errno. */
+static int keep_ownership(int descriptor, const struct stat *old)
+{
+    struct stat made;
+
+    if (fstat(descriptor, &made) != 0) {
+        return -1;
+    }
+    if ((made.st_uid != old->st_uid || made.st_gid != old->st_gid) &&
+        fchown(descriptor, old->st_uid, old->st_gid) != 0) {
+        return -1;
+    }
+    return fchmod(descriptor, old->st_mode & 07777);
+}
+
+/* Replaces a file by a new one of these bytes, all or nothing; returns 0, or -1 with errno set. */
+static int replace_file(const char *path, const struct stat *old, const uint8_t *bytes,
+                        size_t length)
+{
+    static const char suffix[] = ".XXXXXX";
+    size_t name_length = strlen(path);
+    char *temporary = malloc(name_length + sizeof suffix);
+    int descriptor, result, error;
+
+    if (temporary == NULL) {
+        return -1;
+    }
+    memcpy(temporary, path, name_length);
+    memcpy(temporary + name_length, suffix, sizeof suffix);
+    descriptor = mkstemp(temporary);
+    if (descriptor < 0) {
+        error = errno;
+        free(temporary);
+        errno = error;
+        return -1;
+    }
+    result = keep_ownership(descriptor, old);
+    if (result == 0) {
+        result = write_through(descriptor, bytes, length);
+    }
+    error = errno;
+    if (close(descriptor) != 0 && result == 0) {
+        result = -1;
+        error = errno;
+    }
+    if (result == 0) {
+        result = rename(temporary, path);
+        error = errno;
+    }
+    if (result != 0) {
+        unlink(temporary);
+    }
+    free(temporary);
+    errno = error;
+    return result;
+}
+
+/*
+ * Edits the file of a name as the user gave it, whose own path, with symbolic links followed, is
+ * path. Returns the exit status.
+ */
+static int edit(const char *name, const char *path, uint32_t format, uint64_t entry,
+                const struct new_value *value, long long size)
+{
+    struct image_file image;
+    struct stat old;
+    size_t out_length;
+    uint8_t *out;
+    uint64_t answer;
+    int status = DONE;
+
+    if (stat(path, &old) != 0) {
+        fprintf(stderr, "edit: %s: %s\n", name, strerror(errno));
+        return FAILED;
+    }
+    if (!S_ISREG(old.st_mode)) {
+        fprintf(stderr, "edit: %s: not a regular file\n", name);
+        return FAILED;
+    }
+    if (read_image_file(path, &image) != 0) {
+        fprintf(stderr, "edit: %s: %s\n", name, strerror(errno));
+        return FAILED;
+    }
+    out_length = size < 0 ? image.length : (size_t)size;
+    out = malloc(out_length != 0 ? out_length : 1);
+    if (out == NULL) {
+        fprintf(stderr, "edit: %s: no memory for %lu bytes\n", name, (unsigned long)out_length);
+        free(image.bytes);
+        return FAILED;
+    }
+    answer = boardid_edit_entry(format, image.bytes, image.length, entry, value->bytes,
+                                value->length, out, out_length);
+    if (boardid_answer_number(answer) != 0) {
+        report_refusal("edit", name, answer);
+        status = REFUSED;
+    } else if (replace_file(path, &old, out, out_length) != 0) {
+        fprintf(stderr, "edit: %s: not changed: %s\n", name, strerror(errno));
+        status = FAILED;
+    } else if (sync_folder(path) != 0) {
+        fprintf(stderr, "edit: %s: changed, but its folder could not be synced: %s\n", name,
+                strerror(errno));
+        status = FAILED;
+    } else {
+        printf("%s: entry %llu edited, the image has %lu of the file's %lu bytes\n", name,
+               (unsigned long long)entry, (unsigned long)boardid_answer_count(answer),
+               (unsigned long)out_length);
+    }
+    free(out);
+    free(image.bytes);
+    return status;
+}
+
+/* Says how the program is used; returns the exit status. */
+static int usage(void)
+{
+    fprintf(stderr, "usage: edit [-x] [-s SIZE] fboss|vpd|tiny FILE ENTRY VALUE\n"
+                    "  -x       VALUE is bytes in hexadecimal, as 0a1b or 0a:1b\n"
+                    "  -s SIZE  the size of the new file, at most 65536; else it stays\n"
+                    "  ENTRY    the entry's number, as list prints it\n");
+    return BAD_USAGE;
+}
+
+int main(int argc, char **argv)
+{
+    unsigned long long number = 0, entry = 0;
+    struct new_value value;
+    long long size = -1;
+    int hex = 0, option, status;
+    uint32_t format;
+    char **words, *path;
+
+    /* The plus sign keeps glibc from taking a VALUE that begins with a minus for an option. */
+    while ((option = getopt(argc, argv, "+xs:")) != -1) {
+        if (option == 'x') {
+            hex = 1;
+        } else if (option == 's' && number_of_word(optarg, BOARDID_IMAGE_MAX, &number) == 0) {
+            size = (long long)number;
+        } else {
+            return usage();
+        }
+    }
+    words = argv + optind;
+    if (argc - optind != 4) {
+        return usage();
+    }
+    format = format_of_word(words[0]);
+    if (format == 0 || number_of_word(words[2], UINT64_MAX, &entry) != 0) {
+        return usage();
+    }
+    value.length = strlen(words[3]);
+    value.bytes = malloc(value.length + 1);
+    if (value.bytes == NULL) {
+        fprintf(stderr, "edit: no memory for the value\n");
+        return FAILED;
+    }
+    memcpy(value.bytes, words[3], value.length + 1);
+    if (hex && bytes_of_word(words[3], &value) != 0) {
+        fprintf(stderr, "edit: %s is not bytes in hexadecimal\n", words[3]);
+        free(value.bytes);
+        return BAD_USAGE;
+    }
+    path = realpath(words[1], NULL);
+    if (path == NULL) {
+        fprintf(stderr, "edit: %s: %s\n", words[1], strerror(errno));
+        free(value.bytes);
+        return FAILED;
+    }
+    status = edit(words[1], path, format, entry, &value, size);
+    free(path);
+    free(value.bytes);
+    return status;
+}

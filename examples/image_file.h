@@ -1,0 +1,84 @@
+/*
+ * What both examples do with an image file: find the format that the user names, read the file, and
+ * report a refusal. Each example includes this file once.
+ */
+#ifndef IMAGE_FILE_H
+#define IMAGE_FILE_H
+
+#include <errno.h>
+#include <stdio.h>
+#include <stdlib.h>
+#include <string.h>
+
+#include <boardid.h>
+
+/* The exit statuses of the examples. */
+enum {
+    DONE = 0,
+    REFUSED = 1,   /* the library refused the call */
+    BAD_USAGE = 2, /* the command line is wrong */
+    FAILED = 3     /* a file could not be read or written, or there is no memory */
+};
+
+/* The bytes of a file. */
+struct image_file {
+    uint8_t *bytes;
+    size_t length;
+};
+
+/* The number of the format that the user names; 0 of any other word. */
+static uint32_t format_of_word(const char *word)
+{
+    if (strcmp(word, "fboss") == 0) {
+        return BOARDID_FORMAT_FBOSS;
+    }
+    if (strcmp(word, "vpd") == 0) {
+        return BOARDID_FORMAT_VPD;
+    }
+    if (strcmp(word, "tiny") == 0) {
+        return BOARDID_FORMAT_TINY;
+    }
+    return 0;
+}
+
+/*
+ * Reads a file, of a longer one the first 65,537 bytes: the library refuses these as too long, so
+ * no more are needed. Returns 0, or -1 with errno set.
+ */
+static int read_image_file(const char *path, struct image_file *file)
+{
+    const size_t room = (size_t)BOARDID_IMAGE_MAX + 1;
+    FILE *stream = fopen(path, "rb");
+    int error;
+
+    if (stream == NULL) {
+        return -1;
+    }
+    file->bytes = malloc(room);
+    if (file->bytes == NULL) {
+        fclose(stream);
+        errno = ENOMEM;
+        return -1;
+    }
+    errno = 0;
+    file->length = fread(file->bytes, 1, room, stream);
+    error = ferror(stream) ? (errno != 0 ? errno : EIO) : 0;
+    fclose(stream);
+    if (error != 0) {
+        free(file->bytes);
+        errno = error;
+        return -1;
+    }
+    return 0;
+}
+
+/* Reports a refusal on standard error: its number, its place and its text. */
+static void report_refusal(const char *program, const char *path, uint64_t answer)
+{
+    uint32_t number = boardid_answer_number(answer);
+
+    fprintf(stderr, "%s: %s: refused %lu at %llu: %s\n", program, path, (unsigned long)number,
+            (unsigned long long)boardid_answer_place(answer), boardid_refusal_text(number));
+}
+
+#endif

@@ -1,0 +1,367 @@
+/*
+ * list: lists the entries of an image file as a person would read them.
+ *
+ *     list fboss|vpd|tiny FILE
+ *
+ * One line gives the file, its format, the edition of the header that this program was compiled
+ * with, and how many entries there are. Then each entry has a line: its number, its name and its
+ * value. An entry that the edition does not name has its code for a name, and its bytes for a value.
+ *
+ * Exit status: 0 listed, 1 the library refused the image, 2 a wrong command line, 3 the file could
+ * not be read or the list not be written.
+ */
+#include "image_file.h"
+
+/* The name that a format's document gives to a code. In VPD it is put before the key. */
+struct name {
+    uint32_t kind;
+    const char *text;
+};
+
+static const struct name names[] = {
+    {BOARDID_KIND(BOARDID_FORMAT_FBOSS, BOARDID_FBOSS_PRODUCT_NAME), "Product Name"},
+    {BOARDID_KIND(BOARDID_FORMAT_FBOSS, BOARDID_FBOSS_PRODUCT_PART_NUMBER),
+     "Top Level 20- Product Part Number"},
+    {BOARDID_KIND(BOARDID_FORMAT_FBOSS, BOARDID_FBOSS_SYSTEM_ASSEMBLY_PART_NUMBER),
+     "System Assembly Part Number"},
+    {BOARDID_KIND(BOARDID_FORMAT_FBOSS, BOARDID_FBOSS_META_PCBA_PART_NUMBER),
+     "Meta PCBA Part Number"},
+    {BOARDID_KIND(BOARDID_FORMAT_FBOSS, BOARDID_FBOSS_META_PCB_PART_NUMBER), "Meta PCB Part Number"},
+    {BOARDID_KIND(BOARDID_FORMAT_FBOSS, BOARDID_FBOSS_ODM_PCBA_PART_NUMBER),
+     "ODM/JDM PCBA Part Number"},
+    {BOARDID_KIND(BOARDID_FORMAT_FBOSS, BOARDID_FBOSS_ODM_PCBA_SERIAL_NUMBER),
+     "ODM/JDM PCBA Serial Number"},
+    {BOARDID_KIND(BOARDID_FORMAT_FBOSS, BOARDID_FBOSS_PRODUCT_PRODUCTION_STATE),
+     "Product Production State"},
+    {BOARDID_KIND(BOARDID_FORMAT_FBOSS, BOARDID_FBOSS_PRODUCT_VERSION), "Product Version"},
+    {BOARDID_KIND(BOARDID_FORMAT_FBOSS, BOARDID_FBOSS_PRODUCT_SUB_VERSION), "Product Sub Version"},
+    {BOARDID_KIND(BOARDID_FORMAT_FBOSS, BOARDID_FBOSS_PRODUCT_SERIAL_NUMBER),
+     "Product Serial Number"},
+    {BOARDID_KIND(BOARDID_FORMAT_FBOSS, BOARDID_FBOSS_SYSTEM_MANUFACTURER), "System Manufacturer"},
+    {BOARDID_KIND(BOARDID_FORMAT_FBOSS, BOARDID_FBOSS_SYSTEM_MANUFACTURING_DATE),
+     "System Manufacturing Date"},
+    {BOARDID_KIND(BOARDID_FORMAT_FBOSS, BOARDID_FBOSS_PCB_MANUFACTURER), "PCB Manufacturer"},
+    {BOARDID_KIND(BOARDID_FORMAT_FBOSS, BOARDID_FBOSS_ASSEMBLED_AT), "Assembled at"},
+    {BOARDID_KIND(BOARDID_FORMAT_FBOSS, BOARDID_FBOSS_EEPROM_LOCATION_ON_FABRIC),
+     "EEPROM location on Fabric"},
+    {BOARDID_KIND(BOARDID_FORMAT_VPD, BOARDID_VPD_STRING), ""},
+    {BOARDID_KIND(BOARDID_FORMAT_TINY, BOARDID_TINY_ASCII_STRINGS), "ASCII encoded strings pool"},
+    {BOARDID_KIND(BOARDID_FORMAT_TINY, BOARDID_TINY_SERIAL_NUMBER), "Serial number"},
+    {BOARDID_KIND(BOARDID_FORMAT_TINY, BOARDID_TINY_FACTORY_TEST_FLAGS), "Factory test flags"},
+    {BOARDID_KIND(BOARDID_FORMAT_TINY, BOARDID_TINY_BASE_MAC_ADDRESS), "Base MAC address"},
+    {BOARDID_KIND(BOARDID_FORMAT_TINY, BOARDID_TINY_PRODUCT_IDENTITY), "Product identity"},
+    {BOARDID_KIND(BOARDID_FORMAT_TINY, BOARDID_TINY_SYSTEM_PRODUCT_IDENTITY),
+     "System product identity"},
+#if BOARDID_EDITION >= 2
+    {BOARDID_KIND(BOARDID_FORMAT_FBOSS, BOARDID_FBOSS_X86_CPU_MAC_ADDRESSES),
+     "X86 CPU MAC Addresses"},
+    {BOARDID_KIND(BOARDID_FORMAT_FBOSS, BOARDID_FBOSS_BMC_MAC_ADDRESSES), "BMC MAC Addresses"},
+    {BOARDID_KIND(BOARDID_FORMAT_FBOSS, BOARDID_FBOSS_SWITCH_ASIC_MAC_ADDRESSES),
+     "Switch ASIC MAC Addresses"},
+    {BOARDID_KIND(BOARDID_FORMAT_FBOSS, BOARDID_FBOSS_META_RESERVED_MAC_ADDRESSES),
+     "Meta Reserved MAC Addresses"},
+    {BOARDID_KIND(BOARDID_FORMAT_VPD, BOARDID_VPD_INFO), "info header "},
+    {BOARDID_KIND(BOARDID_FORMAT_TINY, BOARDID_TINY_PRODUCT_IDENTITY_BATCH),
+     "Product identity w/ batch code"},
+    {BOARDID_KIND(BOARDID_FORMAT_TINY, BOARDID_TINY_SYSTEM_PRODUCT_IDENTITY_BATCH),
+     "System product identity w/ batch code"},
+#endif
+};
+
+/* The name of a format. */
+static const char *format_name(uint32_t format)
+{
+    switch (format) {
+    case BOARDID_FORMAT_FBOSS:
+        return "FBOSS v5";
+    case BOARDID_FORMAT_VPD:
+        return "VPD 2.0";
+    default:
+        return "Tiny EEPROM version 2";
+    }
+}
+
+/* The name of a kind; null of kind 0, which has none. */
+static const char *kind_name(uint32_t kind)
+{
+    size_t i;
+
+    for (i = 0; i < sizeof names / sizeof names[0]; i++) {
+        if (names[i].kind == kind) {
+            return names[i].text;
+        }
+    }
+    return NULL;
+}
+
+/* Whether bytes are printable ASCII. */
+static int is_text(const uint8_t *bytes, size_t length)
+{
+    size_t i;
+
+    for (i = 0; i < length; i++) {
+        if (bytes[i] < 0x20 || bytes[i] > 0x7E) {
+            return 0;
+        }
+    }
+    return 1;
+}
+
+/* Prints one character of a text; what is not printable as \x and two digits. */
+static void print_character(unsigned character)
+{
+    if (character == '"' || character == '\\') {
+        printf("\\%c", (int)character);
+    } else if (character < 0x20 || character > 0x7E) {
+        printf("\\x%02X", character);
+    } else {
+        printf("%c", (int)character);
+    }
+}
+
+/* Prints bytes as a text in quotes. */
+static void print_text(const uint8_t *bytes, size_t length)
+{
+    size_t i;
+
+    printf("\"");
+    for (i = 0; i < length; i++) {
+        print_character(bytes[i]);
+    }
+    printf("\"");
+}
+
+/* Prints bytes in hexadecimal. */
+static void print_hex(const uint8_t *bytes, size_t length)
+{
+    size_t i;
+
+    if (length == 0) {
+        printf("no bytes");
+    }
+    for (i = 0; i < length; i++) {
+        printf(i == 0 ? "%02X" : " %02X", bytes[i]);
+    }
+}
+
+/* Prints the string that a string number counts; says so where the pool has none. */
+static void print_string(const struct image_file *image, uint32_t number)
+{
+    uint64_t answer = boardid_string_at(BOARDID_FORMAT_TINY, image->bytes, image->length, number);
+    struct boardid_part part = boardid_answer_part(answer);
+    const uint8_t *string = image->bytes + part.place;
+    uint32_t i;
+
+    if (boardid_answer_number(answer) != 0) {
+        printf("string %lu, which the pool does not have", (unsigned long)number);
+        return;
+    }
+    printf("\"");
+    for (i = 0; i < part.length; i++) {
+        print_character(string[i] & 0x7Fu);
+    }
+    printf("\"");
+}
+
+/* Prints every string of the pool, and how many bytes after the last one make no string. */
+static void print_pool(const struct image_file *image, const struct boardid_record *record)
+{
+    uint32_t rest = record->value_length;
+    uint32_t number = 0;
+    uint64_t answer = boardid_string_at(BOARDID_FORMAT_TINY, image->bytes, image->length, number);
+
+    if (boardid_answer_number(answer) != 0) {
+        printf("no strings");
+    }
+    while (boardid_answer_number(answer) == 0) {
+        if (number != 0) {
+            printf(", ");
+        }
+        print_string(image, number);
+        rest -= boardid_answer_part(answer).length;
+        number++;
+        answer = boardid_string_at(BOARDID_FORMAT_TINY, image->bytes, image->length, number);
+    }
+    if (rest != 0) {
+        printf("; bytes of no string: %lu", (unsigned long)rest);
+    }
+}
+
+/* Prints an address block: the first address and how many there are. */
+static void print_addresses(const struct boardid_record *record)
+{
+    uint64_t base = boardid_record_address_base(record);
+    uint32_t count = boardid_record_address_count(record);
+    int shift;
+
+    for (shift = 40; shift >= 0; shift -= 8) {
+        printf(shift == 40 ? "%02x" : ":%02x", (unsigned)(base >> shift & 0xFF));
+    }
+    printf(count == 1 ? ", %lu address" : ", %lu addresses", (unsigned long)count);
+}
+
+/* Prints which factory tests were passed. */
+static void print_test_flags(const struct boardid_record *record)
+{
+    static const char *const tests[4] = {"assembly", "configuration", "burn-in", "system"};
+    uint32_t flags = boardid_record_test_flags(record);
+    const char *before = ": ";
+    int bit;
+
+    printf("%lu of 4 tests passed", (unsigned long)boardid_record_tests_passed(record));
+    for (bit = 0; bit < 4; bit++) {
+        if ((flags >> bit & 1) != 0) {
+            printf("%s%s", before, tests[bit]);
+            before = ", ";
+        }
+    }
+    if (flags > 0x0F) {
+        printf("; reserved bits %02Xh", (unsigned)(flags & 0xF0));
+    }
+}
+
+/* Prints an identity: the two strings, and the revision in the parts that the board's maker uses. */
+static void print_identity(const struct image_file *image, const struct boardid_record *record)
+{
+    struct boardid_identity identity = boardid_record_identity(record);
+
+    printf("serial ");
+    print_string(image, identity.serial_string);
+    printf(", part ");
+    print_string(image, identity.part_string);
+    if (identity.revision_major < 128) {
+        printf(", revision %02lu", (unsigned long)identity.revision_major);
+    } else {
+        printf(", revision 0%c", (int)('A' + (identity.revision_major - 128)));
+    }
+    printf(" %02lu ", (unsigned long)identity.revision_minor);
+#if BOARDID_EDITION >= 2
+    if (record->reading == BOARDID_READING_IDENTITY_WITH_BATCH) {
+        printf("%04lu ", (unsigned long)boardid_record_batch(record));
+    }
+#endif
+    print_character(identity.free_bytes[0]);
+    print_character(identity.free_bytes[1]);
+}
+
+/* Prints the value of an entry by its reading. */
+static void print_value(const struct image_file *image, const struct boardid_record *record)
+{
+    const uint8_t *value = image->bytes + record->value_place;
+
+    switch (record->reading) {
+    case BOARDID_READING_TEXT:
+        print_text(value, record->value_length);
+        break;
+    case BOARDID_READING_NUMBER:
+        printf("%lu", (unsigned long)boardid_record_number(record));
+        break;
+    case BOARDID_READING_ADDRESS_BLOCK:
+        print_addresses(record);
+        break;
+    case BOARDID_READING_STRING_NUMBER:
+        print_string(image, boardid_record_string_number(record));
+        break;
+    case BOARDID_READING_TEST_FLAGS:
+        print_test_flags(record);
+        break;
+    case BOARDID_READING_IDENTITY:
+#if BOARDID_EDITION >= 2
+    case BOARDID_READING_IDENTITY_WITH_BATCH:
+#endif
+        print_identity(image, record);
+        break;
+    default:
+        if (record->kind == BOARDID_KIND(BOARDID_FORMAT_TINY, BOARDID_TINY_ASCII_STRINGS)) {
+            print_pool(image, record);
+        } else if (record->kind == BOARDID_KIND(BOARDID_FORMAT_VPD, BOARDID_VPD_STRING) &&
+                   is_text(value, record->value_length)) {
+            print_text(value, record->value_length);
+        } else {
+            print_hex(value, record->value_length);
+        }
+        break;
+    }
+}
+
+/* Prints what an entry is called: the name of its code, or its code; in VPD also its key. */
+static void print_name(uint32_t format, const struct image_file *image,
+                       const struct boardid_record *record)
+{
+    const char *name = kind_name(record->kind);
+
+    if (name != NULL) {
+        printf("%s", name);
+    } else if (format == BOARDID_FORMAT_FBOSS) {
+        printf("code %lu", (unsigned long)record->code);
+    } else if (format == BOARDID_FORMAT_TINY) {
+        printf("tag %02lXh", (unsigned long)record->code);
+    } else {
+        printf("type %02lXh ", (unsigned long)record->code);
+    }
+    if (format == BOARDID_FORMAT_VPD) {
+        print_text(image->bytes + record->key_place, record->key_length);
+    }
+}
+
+/* Lists an image; returns the exit status. */
+static int list(uint32_t format, const char *path, const struct image_file *image)
+{
+    uint64_t answer = boardid_check_image(format, image->bytes, image->length);
+    uint32_t count = boardid_answer_count(answer);
+    size_t length = (size_t)count * BOARDID_RECORD_SIZE;
+    uint8_t *records;
+    uint32_t n;
+
+    if (boardid_answer_number(answer) != 0) {
+        report_refusal("list", path, answer);
+        return REFUSED;
+    }
+    records = malloc(length != 0 ? length : 1);
+    if (records == NULL) {
+        fprintf(stderr, "list: %s: no memory for %lu records\n", path, (unsigned long)count);
+        return FAILED;
+    }
+    answer = boardid_list_entries(format, image->bytes, image->length, records, length);
+    if (boardid_answer_number(answer) != 0) {
+        report_refusal("list", path, answer);
+        free(records);
+        return REFUSED;
+    }
+    printf(count == 1 ? "%s: %s, edition %d, %lu entry\n" : "%s: %s, edition %d, %lu entries\n",
+           path, format_name(format), BOARDID_EDITION, (unsigned long)count);
+    for (n = 0; n < count; n++) {
+        struct boardid_record record = boardid_record_at(records, n);
+
+        printf("%3lu  ", (unsigned long)n);
+        print_name(format, image, &record);
+        printf(": ");
+        print_value(image, &record);
+        printf("\n");
+    }
+    free(records);
+    if (fflush(stdout) != 0 || ferror(stdout)) {
+        fprintf(stderr, "list: the list could not be written: %s\n", strerror(errno));
+        return FAILED;
+    }
+    return DONE;
+}
+
+int main(int argc, char **argv)
+{
+    struct image_file image;
+    uint32_t format = argc == 3 ? format_of_word(argv[1]) : 0;
+    int status;
+
+    if (format == 0) {
+        fprintf(stderr, "usage: list fboss|vpd|tiny FILE\n");
+        return BAD_USAGE;
+    }
+    if (read_image_file(argv[2], &image) != 0) {
+        fprintf(stderr, "list: %s: %s\n", argv[2], strerror(errno));
+        return FAILED;
+    }
+    status = list(format, argv[2], &image);
+    free(image.bytes);
+    return status;
+}

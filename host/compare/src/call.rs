@@ -1,0 +1,225 @@
+//! The eight calls with their arguments, made on the library and on the second reader.
+
+use crate::lent::Lent;
+
+#[derive(Clone, Copy, PartialEq, Eq)]
+pub enum Kind {
+    Check,
+    List,
+    Entry,
+    Value,
+    String,
+    Step,
+    Write,
+    Edit,
+}
+
+/// The calls' names, by kind.
+pub const NAMES: [&str; 8] = [
+    "check", "list", "entry", "value", "string", "step", "write", "edit",
+];
+
+/// One call. What its kind does not take stands at nothing.
+#[derive(Clone, Copy)]
+pub struct Call<'a> {
+    pub kind: Kind,
+    /// A step has its format and edition in the walk.
+    pub format: u32,
+    pub edition: u32,
+    /// The entry's number, or the string's.
+    pub n: u64,
+    /// The parts that are only read: the image, then the new value of an edit. Of a write, the
+    /// fields, then the values.
+    pub read: [&'a [u8]; 2],
+    /// The walk of a step, which is read and written.
+    pub walk: &'a [u8],
+    /// The length in bytes of the records, the record or the output.
+    pub room: usize,
+}
+
+impl<'a> Call<'a> {
+    /// The check of an image, from which the other calls on it are made.
+    pub fn check(format: u32, edition: u32, image: &'a [u8]) -> Call<'a> {
+        Call {
+            kind: Kind::Check,
+            format,
+            edition,
+            n: 0,
+            read: [image, &[]],
+            walk: &[],
+            room: 0,
+        }
+    }
+
+    pub fn list(self, room: usize) -> Call<'a> {
+        let kind = Kind::List;
+        Call { kind, room, ..self }
+    }
+
+    pub fn entry(self, n: u64, room: usize) -> Call<'a> {
+        let kind = Kind::Entry;
+        Call {
+            kind,
+            n,
+            room,
+            ..self
+        }
+    }
+
+    pub fn value(self, n: u64) -> Call<'a> {
+        let kind = Kind::Value;
+        Call { kind, n, ..self }
+    }
+
+    pub fn string(self, n: u64) -> Call<'a> {
+        let kind = Kind::String;
+        Call { kind, n, ..self }
+    }
+
+    pub fn step(self, walk: &'a [u8], room: usize) -> Call<'a> {
+        let kind = Kind::Step;
+        Call {
+            kind,
+            walk,
+            room,
+            ..self
+        }
+    }
+
+    pub fn edit(self, n: u64, value: &'a [u8], room: usize) -> Call<'a> {
+        Call {
+            kind: Kind::Edit,
+            n,
+            read: [self.read[0], value],
+            room,
+            ..self
+        }
+    }
+
+    pub fn write(
+        format: u32,
+        edition: u32,
+        fields: &'a [u8],
+        values: &'a [u8],
+        room: usize,
+    ) -> Call<'a> {
+        Call {
+            kind: Kind::Write,
+            read: [fields, values],
+            room,
+            ..Call::check(format, edition, &[])
+        }
+    }
+
+    pub fn name(&self) -> &'static str {
+        NAMES[self.kind as usize]
+    }
+
+    /// The numbers that the call takes, by name.
+    pub fn numbers(&self) -> Vec<(&'static str, u64)> {
+        let mut numbers = Vec::new();
+        if self.kind != Kind::Step {
+            numbers.push(("format", self.format.into()));
+            numbers.push(("edition", self.edition.into()));
+        }
+        match self.kind {
+            Kind::Entry | Kind::Value | Kind::Edit => numbers.push(("n", self.n)),
+            Kind::String => numbers.push(("number", self.n)),
+            _ => {}
+        }
+        numbers
+    }
+
+    /// The names of the parts that are only read, in their order.
+    pub fn read_names(&self) -> &'static [&'static str] {
+        match self.kind {
+            Kind::Write => &["fields", "values"],
+            Kind::Edit => &["image", "value"],
+            _ => &["image"],
+        }
+    }
+
+    /// The name of the part that the room is for, where the call takes one.
+    pub fn room_name(&self) -> Option<&'static str> {
+        match self.kind {
+            Kind::Check | Kind::Value | Kind::String => None,
+            Kind::List => Some("records"),
+            Kind::Entry | Kind::Step => Some("record"),
+            Kind::Write | Kind::Edit => Some("out"),
+        }
+    }
+
+    /// The second reader's answer. `room` and `walk` are its copies of what the call may write.
+    pub fn on_second(&self, room: &mut [u8], walk: &mut [u8]) -> u64 {
+        use second::bytes;
+        let (f, e, [first, other]) = (self.format, self.edition, self.read);
+        match self.kind {
+            Kind::Check => bytes::check(f, e, first),
+            Kind::List => bytes::list(f, e, first, room),
+            Kind::Entry => bytes::entry(f, e, first, self.n, room),
+            Kind::Value => bytes::value(f, e, first, self.n),
+            Kind::String => bytes::string(f, e, first, self.n),
+            Kind::Step => bytes::step(walk, first, room),
+            Kind::Write => bytes::write(f, e, first, other, room),
+            Kind::Edit => bytes::edit(f, e, first, self.n, other, room),
+        }
+    }
+
+    /// The library's answer. `read`, `room` and `walk` are its copies of what it is lent.
+    pub fn on_library(&self, read: &[Lent; 2], room: &mut Lent, walk: &mut Lent) -> u64 {
+        use exports::*;
+        let (f, e, n) = (self.format, self.edition, self.n);
+        let (first, first_len) = (read[0].pointer(), read[0].len());
+        let (other, other_len) = (read[1].pointer(), read[1].len());
+        let (walk, walk_len) = (walk.written_pointer(), walk.len());
+        let (out, out_len) = (room.written_pointer(), room.len());
+        // Each pointer and its length come from one block, and no two parts share a block.
+        unsafe {
+            match self.kind {
+                Kind::Check => boardid_check(f, e, first, first_len),
+                Kind::List => boardid_list(f, e, first, first_len, out, out_len),
+                Kind::Entry => boardid_entry(f, e, first, first_len, n, out, out_len),
+                Kind::Value => boardid_value(f, e, first, first_len, n),
+                Kind::String => boardid_string(f, e, first, first_len, n),
+                Kind::Step => boardid_step(walk, walk_len, first, first_len, out, out_len),
+                Kind::Write => {
+                    boardid_write(f, e, first, first_len, other, other_len, out, out_len)
+                }
+                Kind::Edit => {
+                    boardid_edit(f, e, first, first_len, n, other, other_len, out, out_len)
+                }
+            }
+        }
+    }
+}
+
+/// The bytes of a walk.
+pub fn walk_bytes(format: u32, edition: u32, entry: u64) -> [u8; 16] {
+    let mut bytes = [0; 16];
+    bytes[..4].copy_from_slice(&format.to_le_bytes());
+    bytes[4..8].copy_from_slice(&edition.to_le_bytes());
+    bytes[8..].copy_from_slice(&entry.to_le_bytes());
+    bytes
+}
+
+/// The number of an answer's refusal, or 0.
+pub fn refusal(answer: u64) -> usize {
+    (answer >> 59) as usize
+}
+
+/// The count or the length in an answer that is no refusal.
+pub fn count(answer: u64) -> usize {
+    (answer >> 32 & 0x7FF_FFFF) as usize
+}
+
+/// An answer in words.
+pub fn told(answer: u64) -> String {
+    match refusal(answer) {
+        0 => format!(
+            "{answer:016X}: count {}, place {}",
+            count(answer),
+            answer & 0xFFFF_FFFF
+        ),
+        number => format!("{answer:016X}: refused {number} at {}", answer << 5 >> 5),
+    }
+}

@@ -1,0 +1,233 @@
+//! One call on the library and on the second reader, and the comparison of all that they leave.
+
+use crate::call::{count, refusal, told, Call, Kind, NAMES};
+use crate::crash;
+use crate::lent::{filled, Layout, Lent};
+
+/// How long a record is, in bytes.
+pub const RECORD: usize = 64;
+
+/// What was compared, in numbers.
+#[derive(Clone, Default)]
+pub struct Tally {
+    pub inputs: u64,
+    pub differences: u64,
+    /// Calls by kind and by the number given back, 0 where nothing was refused.
+    pub answers: [[u64; 17]; 8],
+    /// Records given, by reading.
+    pub readings: [u64; 8],
+    /// Records given with kind 0.
+    pub unnamed: u64,
+}
+
+impl Tally {
+    pub fn add(&mut self, other: &Tally) {
+        self.inputs += other.inputs;
+        self.differences += other.differences;
+        self.unnamed += other.unnamed;
+        for (sum, row) in self.answers.iter_mut().zip(&other.answers) {
+            for (sum, count) in sum.iter_mut().zip(row) {
+                *sum += count;
+            }
+        }
+        for (sum, count) in self.readings.iter_mut().zip(&other.readings) {
+            *sum += count;
+        }
+    }
+
+    pub fn calls(&self) -> u64 {
+        self.answers.iter().flatten().sum()
+    }
+
+    /// The counts as a table: a row for each call, a column for each number given back.
+    pub fn table(&self) -> String {
+        let mut table = format!("{:<7}{:>10}", "call", "given");
+        for number in 1..17 {
+            table += &format!("{number:>8}");
+        }
+        for (name, row) in NAMES.iter().zip(&self.answers) {
+            table += &format!("\n{name:<7}{:>10}", row[0]);
+            for count in &row[1..] {
+                let shown = match count {
+                    0 => "-".to_string(),
+                    _ => count.to_string(),
+                };
+                table += &format!("{shown:>8}");
+            }
+        }
+        table
+    }
+
+    /// The records that were compared, by reading.
+    pub fn records(&self) -> String {
+        let names = [
+            "plain",
+            "text",
+            "number",
+            "addresses",
+            "string number",
+            "test flags",
+            "identity",
+            "identity with batch",
+        ];
+        let readings: Vec<String> = names
+            .iter()
+            .zip(self.readings)
+            .map(|(name, count)| format!("{name} {count}"))
+            .collect();
+        format!("records: {}; kind 0: {}", readings.join(", "), self.unnamed)
+    }
+}
+
+/// Compares calls, counts them, and keeps the first difference.
+pub struct Comparison {
+    layout: Layout,
+    salt: u64,
+    /// The format of the input that is being compared, 0 for a fixed case, and its number.
+    input: (u32, u64),
+    pub tally: Tally,
+    /// The first difference, with the number of inputs up to it.
+    pub difference: Option<(u64, String)>,
+}
+
+impl Comparison {
+    pub fn new(layout: Layout) -> Comparison {
+        Comparison {
+            layout,
+            salt: 0,
+            input: (0, 0),
+            tally: Tally::default(),
+            difference: None,
+        }
+    }
+
+    /// Starts the next input. How its parts are lent depends on this input alone.
+    pub fn next_input(&mut self, format: u32, input: u64) {
+        crash::now_at(format, input);
+        self.salt = input.wrapping_mul(4).wrapping_add(u64::from(format));
+        self.input = (format, input);
+        self.tally.inputs += 1;
+    }
+
+    /// Starts the next fixed case.
+    pub fn next_case(&mut self) {
+        self.next_input(0, self.tally.inputs);
+    }
+
+    fn salt(&mut self) -> u8 {
+        self.salt = self
+            .salt
+            .wrapping_mul(0x5851_F42D_4C95_7F2D)
+            .wrapping_add(0x1405_7B7E_F767_814F);
+        (self.salt >> 56) as u8
+    }
+
+    /// Makes a call on both, compares, and gives the second reader's answer and what it wrote.
+    pub fn call(&mut self, call: &Call) -> (u64, Vec<u8>) {
+        let before = filled(self.salt(), call.room);
+        let mut room = before.clone();
+        let mut walk = call.walk.to_vec();
+        let answer = call.on_second(&mut room, &mut walk);
+
+        let layout = self.layout;
+        let mut lend = |bytes: &[u8]| Lent::copy_of(bytes, layout, self.salt());
+        let read = [lend(call.read[0]), lend(call.read[1])];
+        let mut lent_room = lend(&before);
+        let mut lent_walk = lend(call.walk);
+        let from_library = call.on_library(&read, &mut lent_room, &mut lent_walk);
+
+        let mut wrong = Vec::new();
+        if from_library != answer {
+            wrong.push("the answers differ".to_string());
+        }
+        let mut same = |name: &str, lent: &Lent, expected: &[u8]| {
+            if let Some(place) = lent.broken_guard() {
+                wrong.push(format!(
+                    "the library wrote outside {name}, at its byte {place}"
+                ));
+            }
+            let bytes = lent.bytes();
+            if bytes != expected {
+                let place = (0..expected.len()).find(|&place| bytes[place] != expected[place]);
+                let place = place.unwrap_or(0);
+                wrong.push(format!(
+                    "byte {place} of {name} is {:02X} from the library and {:02X} from the second reader",
+                    bytes[place], expected[place]
+                ));
+            }
+        };
+        for (name, (lent, bytes)) in call.read_names().iter().zip(read.iter().zip(call.read)) {
+            same(name, lent, bytes);
+        }
+        same(call.room_name().unwrap_or("nothing"), &lent_room, &room);
+        same("walk", &lent_walk, &walk);
+
+        if !wrong.is_empty() {
+            let wrong = wrong.join("\n  ");
+            self.differs(call, &wrong, from_library, answer);
+        }
+        self.count(call, answer, &room);
+        (answer, room)
+    }
+
+    /// Makes a call whose answer is known from a document, and what it writes where that is given.
+    pub fn case(&mut self, what: &str, call: &Call, answer: u64, written: Option<&[u8]>) {
+        let (given, room) = self.call(call);
+        let told_otherwise = given != answer || written.is_some_and(|written| room != written);
+        if told_otherwise {
+            let mut wrong = format!("the case '{what}' has {}", told(answer));
+            if let Some(written) = written {
+                wrong += &format!(", and writes {}\n  not {}", hex(written), hex(&room));
+            }
+            self.differs(call, &wrong, given, given);
+        }
+    }
+
+    fn count(&mut self, call: &Call, answer: u64, room: &[u8]) {
+        let number = refusal(answer).min(16);
+        self.tally.answers[call.kind as usize][number] += 1;
+        if number == 0 && matches!(call.kind, Kind::List | Kind::Entry | Kind::Step) {
+            for record in room.chunks_exact(RECORD).take(count(answer)) {
+                self.tally.readings[usize::from(record[32]) % 8] += 1;
+                self.tally.unnamed += u64::from(record[4..8] == [0; 4]);
+            }
+        }
+    }
+
+    fn differs(&mut self, call: &Call, wrong: &str, library: u64, second: u64) {
+        self.tally.differences += 1;
+        if self.difference.is_some() {
+            return;
+        }
+        let (format, input) = self.input;
+        let mut text = match format {
+            0 => format!("  fixed case {input} of its group\n"),
+            _ => format!("  input {input} of format {format}\n"),
+        };
+        text += &format!("  boardid_{}\n", call.name());
+        for (name, number) in call.numbers() {
+            text += &format!("  {name}: {number}\n");
+        }
+        let mut part = |name: &str, bytes: &[u8]| {
+            text += &format!("  {name}, {} bytes: {}\n", bytes.len(), hex(bytes));
+        };
+        if call.kind == Kind::Step {
+            part("walk", call.walk);
+        }
+        for (name, bytes) in call.read_names().iter().zip(call.read) {
+            part(name, bytes);
+        }
+        if let Some(name) = call.room_name() {
+            text += &format!("  {name}: {} bytes lent\n", call.room);
+        }
+        text += &format!("  {wrong}\n");
+        text += &format!("  library        {}\n", told(library));
+        text += &format!("  second reader  {}", told(second));
+        self.difference = Some((self.tally.inputs, text));
+    }
+}
+
+pub fn hex(bytes: &[u8]) -> String {
+    let pairs: Vec<String> = bytes.iter().map(|byte| format!("{byte:02X}")).collect();
+    pairs.join(" ")
+}

@@ -1,0 +1,120 @@
+//! Says which input is to blame where the library crashes or does not come back.
+
+use std::cell::Cell;
+use std::fmt::{self, Write};
+use std::process;
+use std::sync::atomic::{AtomicU64, Ordering};
+use std::thread;
+use std::time::{Duration, Instant};
+
+/// The inputs that the threads are at, as format and number in one word; 0 for none.
+static AT: [AtomicU64; 64] = [const { AtomicU64::new(0) }; 64];
+static SEED: AtomicU64 = AtomicU64::new(0);
+
+thread_local! {
+    static THREAD: Cell<usize> = const { Cell::new(0) };
+}
+
+extern "C" {
+    fn signal(number: i32, handler: extern "C" fn(i32)) -> usize;
+    fn write(file: i32, text: *const u8, length: usize) -> isize;
+    fn _exit(status: i32) -> !;
+}
+
+/// Has crashes reported from here on.
+pub fn report_crashes(seed: u64) {
+    SEED.store(seed, Ordering::Relaxed);
+    // The numbers of SIGILL, SIGABRT, SIGBUS, SIGFPE and SIGSEGV.
+    for number in [4, 6, 7, 8, 11] {
+        // The handler only formats numbers into its own stack and writes them.
+        unsafe { signal(number, crashed) };
+    }
+}
+
+/// Says which of the threads this one is.
+pub fn this_is_thread(number: usize) {
+    THREAD.set(number % AT.len());
+}
+
+/// Says that this thread is at an input: of a format, or of the fixed cases, which are format 0.
+pub fn now_at(format: u32, input: u64) {
+    AT[THREAD.get()].store(u64::from(format + 1) << 56 | input, Ordering::Relaxed);
+}
+
+/// Says that this thread is at no input.
+pub fn now_at_none() {
+    AT[THREAD.get()].store(0, Ordering::Relaxed);
+}
+
+/// Waits until all is done, and ends the program where one input takes longer than the limit.
+pub fn watch(done: impl Fn() -> bool, limit: Duration) {
+    let mut seen = [(0, Instant::now()); 64];
+    while !done() {
+        thread::sleep(Duration::from_millis(20));
+        for (at, (last, since)) in AT.iter().zip(&mut seen) {
+            let at = at.load(Ordering::Relaxed);
+            if at != *last {
+                (*last, *since) = (at, Instant::now());
+            } else if at != 0 && since.elapsed() > limit {
+                println!(
+                    "compare: no answer in {} seconds\n{}",
+                    limit.as_secs(),
+                    Again(at)
+                );
+                process::exit(1);
+            }
+        }
+    }
+}
+
+extern "C" fn crashed(number: i32) {
+    let mut text = Line {
+        bytes: [0; 256],
+        length: 0,
+    };
+    let at = AT[THREAD.get()].load(Ordering::Relaxed);
+    let _ = writeln!(text, "compare: a crash, signal {number}\n{}", Again(at));
+    unsafe {
+        write(1, text.bytes.as_ptr(), text.length);
+        _exit(1)
+    }
+}
+
+/// The command that makes an input again.
+struct Again(u64);
+
+impl fmt::Display for Again {
+    fn fmt(&self, to: &mut fmt::Formatter) -> fmt::Result {
+        let seed = SEED.load(Ordering::Relaxed);
+        let input = self.0 & ((1 << 56) - 1);
+        match self.0 >> 56 {
+            0 => write!(to, "at no input"),
+            1 => write!(to, "at fixed case {input}: compare --inputs 0"),
+            format => {
+                let format = format - 1;
+                write!(
+                    to,
+                    "again: compare --seed {seed} --format {format} --first {input} --inputs 1"
+                )
+            }
+        }
+    }
+}
+
+/// A line of text that needs no heap.
+struct Line {
+    bytes: [u8; 256],
+    length: usize,
+}
+
+impl Write for Line {
+    fn write_str(&mut self, text: &str) -> fmt::Result {
+        for &byte in text.as_bytes() {
+            if let Some(place) = self.bytes.get_mut(self.length) {
+                *place = byte;
+                self.length += 1;
+            }
+        }
+        Ok(())
+    }
+}

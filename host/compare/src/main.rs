@@ -1,0 +1,249 @@
+//! Compares every export of libboardid.a with the second reader.
+//!
+//!     compare [--seed N] [--inputs N] [--format F] [--first N] [--exact] [--threads N]
+//!
+//! An input is an image or a field list, and each is put through many calls. Of every call, the
+//! answer and every byte of all lent memory are compared. The fixed cases come first, then N
+//! generated inputs of each format. A generated input depends on the seed, its format and its number
+//! alone, so that `--first` makes any of them again.
+
+mod call;
+mod cases;
+mod checks;
+mod comparison;
+mod crash;
+mod damage;
+mod fboss;
+mod fields;
+mod generate;
+mod image;
+mod lent;
+mod plan;
+mod random;
+mod tiny;
+mod vpd;
+
+use std::process::ExitCode;
+use std::sync::atomic::{AtomicUsize, Ordering};
+use std::sync::Mutex;
+use std::thread;
+use std::time::{Duration, Instant};
+
+use comparison::{Comparison, Tally};
+use image::{Format, FORMATS};
+use lent::Layout;
+use random::Random;
+
+/// How many inputs of one format a thread takes at a time.
+const CHUNK: u64 = 32;
+
+struct Options {
+    seed: u64,
+    inputs: u64,
+    first: Option<u64>,
+    formats: Vec<Format>,
+    layout: Layout,
+    threads: usize,
+}
+
+/// What a thread does at a time: one group of fixed cases, or some inputs of one format.
+#[derive(Clone, Copy)]
+enum Task {
+    Fixed(cases::Group),
+    Generated { format: Format, from: u64, to: u64 },
+}
+
+/// What came of a task.
+struct Outcome {
+    task: usize,
+    tally: Tally,
+    /// The first difference, with the number of inputs that the task took to find it.
+    difference: Option<(u64, String)>,
+}
+
+fn main() -> ExitCode {
+    let options = match options() {
+        Ok(options) => options,
+        Err(wrong) => {
+            eprintln!("compare: {wrong}");
+            eprintln!("usage: compare [--seed N] [--inputs N] [--format 1|2|3] [--first N] [--exact] [--threads N]");
+            return ExitCode::from(2);
+        }
+    };
+    crash::report_crashes(options.seed);
+    let started = Instant::now();
+    let mut outcomes = run(&options);
+    outcomes.sort_by_key(|outcome| outcome.task);
+
+    let mut tally = Tally::default();
+    let mut first = None;
+    for outcome in outcomes {
+        if let (None, Some((inputs, text))) = (&first, outcome.difference) {
+            first = Some((tally.inputs + inputs, text));
+        }
+        tally.add(&outcome.tally);
+    }
+
+    println!("{}", tally.table());
+    println!("{}", tally.records());
+    println!(
+        "seed {}, {} calls, {:.1} s",
+        options.seed,
+        tally.calls(),
+        started.elapsed().as_secs_f64()
+    );
+    if let Some((inputs, text)) = &first {
+        println!(
+            "first difference, at input {inputs} of this run, seed {}:\n{text}",
+            options.seed
+        );
+    }
+    println!(
+        "compare: {} inputs, {} differences",
+        tally.inputs, tally.differences
+    );
+    match first {
+        None => ExitCode::SUCCESS,
+        Some(_) => ExitCode::FAILURE,
+    }
+}
+
+fn options() -> Result<Options, String> {
+    let mut options = Options {
+        seed: 1,
+        inputs: 20_000,
+        first: None,
+        formats: FORMATS.to_vec(),
+        layout: Layout::Guarded,
+        threads: thread::available_parallelism().map_or(1, |threads| threads.get()),
+    };
+    let mut words = std::env::args().skip(1);
+    while let Some(word) = words.next() {
+        let mut number = || -> Result<u64, String> {
+            let text = words.next().ok_or(format!("{word} wants a number"))?;
+            text.parse().map_err(|_| format!("{text} is no number"))
+        };
+        match word.as_str() {
+            "--seed" => options.seed = number()?,
+            "--inputs" => options.inputs = number()?,
+            "--first" => options.first = Some(number()?),
+            "--threads" => options.threads = number()?.clamp(1, 64) as usize,
+            "--exact" => options.layout = Layout::Exact,
+            "--format" => {
+                let asked = number()?;
+                options
+                    .formats
+                    .retain(|format| u64::from(format.number()) == asked);
+                if options.formats.is_empty() {
+                    return Err(format!("there is no format {asked}"));
+                }
+            }
+            _ => return Err(format!("{word} is no option")),
+        }
+    }
+    Ok(options)
+}
+
+/// The fixed cases, unless the run starts at a given input, and then the inputs of all formats in
+/// turn.
+fn tasks(options: &Options) -> Vec<Task> {
+    let mut tasks = Vec::new();
+    if options.first.is_none() {
+        tasks.extend(cases::GROUPS.map(Task::Fixed));
+    }
+    let first = options.first.unwrap_or(0);
+    let end = first + options.inputs;
+    for from in (first..end).step_by(CHUNK as usize) {
+        let to = end.min(from + CHUNK);
+        for &format in &options.formats {
+            tasks.push(Task::Generated { format, from, to });
+        }
+    }
+    tasks
+}
+
+fn run(options: &Options) -> Vec<Outcome> {
+    let tasks = tasks(options);
+    let next = AtomicUsize::new(0);
+    let ended = AtomicUsize::new(0);
+    let outcomes = Mutex::new(Vec::new());
+    // A memory checker makes everything slower.
+    let limit = Duration::from_secs(match options.layout {
+        Layout::Guarded => 60,
+        Layout::Exact => 600,
+    });
+    let work = |number| {
+        crash::this_is_thread(number);
+        loop {
+            let task = next.fetch_add(1, Ordering::Relaxed);
+            let Some(&what) = tasks.get(task) else { break };
+            let outcome = perform(options, task, what);
+            outcomes.lock().expect("no thread panics").push(outcome);
+        }
+        crash::now_at_none();
+        ended.fetch_add(1, Ordering::Relaxed);
+    };
+    thread::scope(|scope| {
+        for number in 0..options.threads {
+            let work = &work;
+            scope.spawn(move || work(number));
+        }
+        crash::watch(|| ended.load(Ordering::Relaxed) == options.threads, limit);
+    });
+    outcomes.into_inner().expect("no thread panics")
+}
+
+fn perform(options: &Options, task: usize, what: Task) -> Outcome {
+    let mut compare = Comparison::new(options.layout);
+    match what {
+        Task::Fixed(group) => group(&mut compare),
+        Task::Generated { format, from, to } => {
+            for input in from..to {
+                let mut random = Random::of_input(options.seed, format.number(), input);
+                compare.next_input(format.number(), input);
+                generated(&mut compare, &mut random, format);
+            }
+        }
+    }
+    Outcome {
+        task,
+        difference: compare.difference.take(),
+        tally: compare.tally,
+    }
+}
+
+/// Draws one input of a format and makes the calls on it.
+fn generated(compare: &mut Comparison, random: &mut Random, format: Format) {
+    match random.below(1000) {
+        0 | 1 => {
+            let image = generate::large(random, format).bytes();
+            plan::on_image(compare, random, format, &image);
+        }
+        2 | 3 => {
+            let list = fields::large(random, format);
+            plan::on_fields(compare, random, format, &list.bytes(), &list.values);
+        }
+        4 => {
+            let image = generate::valid(random, format).bytes();
+            plan::on_beginnings(compare, format, &image[..image.len().min(300)]);
+        }
+        5..=29 => {
+            let image = damage::noise(random, format);
+            plan::on_image(compare, random, format, &image);
+        }
+        30..=299 => {
+            let image = generate::valid(random, format).bytes();
+            plan::on_image(compare, random, format, &image);
+        }
+        300..=679 => {
+            let image = generate::valid(random, format);
+            let image = damage::damaged(random, image);
+            plan::on_image(compare, random, format, &image);
+        }
+        _ => {
+            let edition = random.pick(&[1, 2]);
+            let list = fields::list(random, format, edition);
+            plan::on_fields(compare, random, format, &list.bytes(), &list.values);
+        }
+    }
+}

@@ -1,0 +1,880 @@
+/*
+ * Every call through a header's functions, on the cases of the scope document and of
+ * docs/DECISIONS.md (their numbers, as D13, stand beside them). Compiled once with each edition's
+ * header. All lent memory ends at a page that may not be touched.
+ */
+#define _DEFAULT_SOURCE
+
+#include <boardid.h>
+
+#include "expect.h"
+
+/* What a call answers: a refusal's number and place, or 0, 0 and a count. */
+struct outcome {
+    uint32_t number;
+    uint64_t place;
+    uint32_t count;
+};
+
+/* Expects an answer, every bit of it. */
+static void expect_answer(uint64_t answer, struct outcome outcome, const char *what)
+{
+    uint64_t wanted = outcome.number != 0 ? (uint64_t)outcome.number << 59 | outcome.place
+                                          : (uint64_t)outcome.count << 32;
+
+    expect_number(answer, wanted, what);
+    expect_number(boardid_answer_number(answer), outcome.number, what);
+    expect_number(boardid_answer_place(answer), outcome.number != 0 ? outcome.place : 0, what);
+    expect_number(boardid_answer_count(answer), outcome.count, what);
+}
+
+static void expect_refused(uint64_t answer, uint32_t number, uint64_t place, const char *what)
+{
+    struct outcome outcome = {number, place, 0};
+
+    expect_answer(answer, outcome, what);
+}
+
+static void expect_count(uint64_t answer, uint32_t count, const char *what)
+{
+    struct outcome outcome = {0, 0, count};
+
+    expect_answer(answer, outcome, what);
+}
+
+/* ---- Images --------------------------------------------------------------------------------- */
+
+/* An image, and what check answers in edition 1 and in edition 2. */
+struct image_case {
+    const char *what;
+    uint32_t format;
+    const char *image;
+    struct outcome by_edition[2];
+};
+
+static const struct image_case image_cases[] = {
+    {"FBOSS: no bytes", 1, "", {{3, 0, 0}, {3, 0, 0}}},
+    {"FBOSS: header alone", 1, "FB FB 05 FF", {{5, 4, 0}, {5, 4, 0}}},
+    {"FBOSS: wrong magic", 1, "FB FA 05 FF", {{3, 0, 0}, {3, 0, 0}}},
+    {"FBOSS: version 4", 1, "FB FB 04 FF", {{4, 0, 0}, {4, 0, 0}}},
+    {"D15: three bytes", 1, "FB FB 04", {{3, 0, 0}, {3, 0, 0}}},
+    {"D15: version before byte 3", 1, "FB FB 04 00", {{4, 0, 0}, {4, 0, 0}}},
+    {"D15: byte 3", 1, "FB FB 05 00", {{3, 0, 0}, {3, 0, 0}}},
+    {"D14: FA", 1, "FB FB 05 FF FA", {{5, 4, 0}, {5, 4, 0}}},
+    {"D14: FA 02", 1, "FB FB 05 FF FA 02", {{5, 4, 0}, {5, 4, 0}}},
+    {"D14: FA 02 7D", 1, "FB FB 05 FF FA 02 7D", {{5, 4, 0}, {5, 4, 0}}},
+    {"D14: FA 03", 1, "FB FB 05 FF FA 03", {{6, 4, 0}, {6, 4, 0}}},
+    {"D14: wrong check", 1, "FB FB 05 FF FA 02 1D 0F", {{10, 6, 0}, {10, 6, 0}}},
+    {"D14: nothing that is required", 1, "FB FB 05 FF FA 02 7D E4", {{11, 0, 0}, {11, 0, 0}}},
+    {"FBOSS: code 0", 1, "FB FB 05 FF 00 00", {{6, 4, 0}, {6, 4, 0}}},
+    {"FBOSS: code 255", 1, "FB FB 05 FF 63 00 FF", {{6, 6, 0}, {6, 6, 0}}},
+    {"FBOSS: a length that is missing", 1, "FB FB 05 FF 63 00 63", {{5, 6, 0}, {5, 6, 0}}},
+    {"FBOSS: a value past the room", 1, "FB FB 05 FF 63 02 00", {{5, 4, 0}, {5, 4, 0}}},
+    {"FBOSS: what is required",
+     1,
+     "FB FB 05 FF 01 00 08 01 01 09 01 02 0A 01 03 0B 00 FA 02 82 1E",
+     {{0, 0, 5}, {0, 0, 5}}},
+    {"FBOSS: bytes after the end",
+     1,
+     "FB FB 05 FF 01 00 08 01 01 09 01 02 0A 01 03 0B 00 FA 02 82 1E 00 FF 01",
+     {{0, 0, 5}, {0, 0, 5}}},
+    {"FBOSS: without 11",
+     1,
+     "FB FB 05 FF 01 00 08 01 01 09 01 02 0A 01 03 FA 02 57 48",
+     {{11, 0, 0}, {11, 0, 0}}},
+    {"FBOSS: 1Fh in a text",
+     1,
+     "FB FB 05 FF 01 01 1F 08 01 01 09 01 02 0A 01 03 0B 00 FA 02 39 5C",
+     {{7, 4, 0}, {7, 4, 0}}},
+    {"FBOSS: the same with a wrong check",
+     1,
+     "FB FB 05 FF 01 01 1F 08 01 01 09 01 02 0A 01 03 0B 00 FA 02 39 5D",
+     {{10, 20, 0}, {10, 20, 0}}},
+    {"FBOSS: 1 a second time",
+     1,
+     "FB FB 05 FF 01 00 08 01 01 09 01 02 0A 01 03 0B 00 01 00 FA 02 BD 34",
+     {{8, 17, 0}, {8, 17, 0}}},
+    {"FBOSS: 17 of seven bytes",
+     1,
+     "FB FB 05 FF 01 00 08 01 01 09 01 02 0A 01 03 0B 00 11 07 01 02 03 04 05 06 07 FA 02 83 06",
+     {{0, 0, 6}, {7, 17, 0}}},
+    {"FBOSS: 17 a second time",
+     1,
+     "FB FB 05 FF 01 00 08 01 01 09 01 02 0A 01 03 0B 00 11 08 02 00 00 00 00 01 00 02 "
+     "11 08 02 00 00 00 00 01 00 02 FA 02 D4 4B",
+     {{0, 0, 7}, {8, 27, 0}}},
+    {"FBOSS: 21 twice",
+     1,
+     "FB FB 05 FF 01 00 08 01 01 09 01 02 0A 01 03 0B 00 15 00 15 00 FA 02 33 56",
+     {{0, 0, 7}, {0, 0, 7}}},
+    {"FBOSS: month 13",
+     1,
+     "FB FB 05 FF 01 00 08 01 01 09 01 02 0A 01 03 0B 00 0D 08 32 30 32 33 31 33 30 31 FA 02 88 BB",
+     {{7, 17, 0}, {7, 17, 0}}},
+    {"D18: a count of 0",
+     1,
+     "FB FB 05 FF 01 00 08 01 01 09 01 01 0A 01 01 0B 00 11 08 02 00 00 00 00 01 00 00 FA 02 12 06",
+     {{0, 0, 6}, {0, 0, 6}}},
+
+    {"VPD: no bytes", 2, "", {{5, 0, 0}, {5, 0, 0}}},
+    {"VPD: 00", 2, "00", {{0, 0, 0}, {0, 0, 0}}},
+    {"VPD: FF", 2, "FF", {{0, 0, 0}, {0, 0, 0}}},
+    {"VPD: FF and more", 2, "FF 02 02", {{0, 0, 0}, {0, 0, 0}}},
+    {"VPD: SKU", 2, "01 03 53 4B 55 02 41 37 00", {{0, 0, 1}, {0, 0, 1}}},
+    {"VPD: SKU without an end", 2, "01 03 53 4B 55 02 41 37", {{5, 8, 0}, {5, 8, 0}}},
+    {"VPD: type 02h", 2, "01 03 53 4B 55 02 41 37 02", {{6, 8, 0}, {6, 8, 0}}},
+    {"VPD: type FDh", 2, "FD", {{6, 0, 0}, {6, 0, 0}}},
+    {"VPD: an empty key", 2, "01 00 00 00", {{7, 0, 0}, {7, 0, 0}}},
+    {"VPD: five length bytes", 2, "01 80 80 80 80", {{6, 0, 0}, {6, 0, 0}}},
+    {"VPD: leading zero groups", 2, "01 80 01 41 00 00", {{0, 0, 1}, {0, 0, 1}}},
+    {"VPD: a key twice", 2, "01 01 41 00 01 01 41 00 00", {{8, 4, 0}, {8, 4, 0}}},
+    {"VPD: FEh of three bytes", 2, "FE 01 41 03 01 02 03 00", {{0, 0, 1}, {7, 0, 0}}},
+    {"D1: FEh without a key", 2, "FE 00 04 01 02 03 04 00", {{0, 0, 1}, {0, 0, 1}}},
+    {"D16: a key past the room", 2, "01 05 41", {{5, 0, 0}, {5, 0, 0}}},
+    {"D16: three length bytes", 2, "01 80 80 80", {{5, 0, 0}, {5, 0, 0}}},
+    {"D16: a value's length", 2, "01 01 41 80 80 80 80", {{6, 0, 0}, {6, 0, 0}}},
+    {"D17: two forms of a length", 2, "01 01 41 00 01 80 01 41 00 00", {{8, 4, 0}, {8, 4, 0}}},
+    {"D17: FEh twice",
+     2,
+     "FE 01 41 04 01 02 03 04 FE 01 42 04 01 02 03 04 00",
+     {{0, 0, 2}, {8, 8, 0}}},
+    {"D17: one key of 01h and FEh",
+     2,
+     "01 01 41 00 FE 01 41 04 01 02 03 04 00",
+     {{0, 0, 2}, {0, 0, 2}}},
+    {"D18: any key of FEh", 2, "FE 03 2E 2E 20 04 01 02 03 04 00", {{0, 0, 1}, {0, 0, 1}}},
+
+    {"Tiny: no entries", 3, "56 02 04 6F", {{0, 0, 0}, {0, 0, 0}}},
+    {"Tiny: bytes from L on", 3, "56 02 04 6F 00 01", {{0, 0, 0}, {0, 0, 0}}},
+    {"Tiny: wrong check", 3, "56 02 04 6E", {{10, 3, 0}, {10, 3, 0}}},
+    {"Tiny: L below 4", 3, "56 02 03", {{5, 2, 0}, {5, 2, 0}}},
+    {"Tiny: L above the image", 3, "56 02 05 6F", {{5, 2, 0}, {5, 2, 0}}},
+    {"D15: two bytes", 3, "56 02", {{3, 0, 0}, {3, 0, 0}}},
+    {"D15: two bytes of version 3", 3, "56 03", {{3, 0, 0}, {3, 0, 0}}},
+    {"D15: version before L", 3, "56 03 00", {{4, 0, 0}, {4, 0, 0}}},
+    {"Tiny: tag 00h", 3, "56 02 05 00 00", {{6, 3, 0}, {6, 3, 0}}},
+    {"Tiny: an entry past the room", 3, "56 02 06 60 00 00", {{5, 3, 0}, {5, 3, 0}}},
+    {"Tiny: an entry after the pool", 3, "56 02 08 01 00 10 00 50", {{9, 5, 0}, {9, 5, 0}}},
+    {"Tiny: 9 before 6", 3, "56 02 07 01 00 00 00", {{9, 5, 0}, {9, 5, 0}}},
+    {"Tiny: 10h twice", 3, "56 02 08 10 00 10 01 26", {{8, 5, 0}, {8, 5, 0}}},
+    {"Tiny: 23h twice", 3, "56 02 0A 23 AA BB 23 AA BB CB", {{0, 0, 2}, {0, 0, 2}}},
+    {"Tiny: major 100", 3, "56 02 0B 61 00 01 64 00 20 20 E6", {{7, 3, 0}, {7, 3, 0}}},
+    {"Tiny: the largest revisions",
+     3,
+     "56 02 12 61 00 01 63 63 20 20 62 00 01 99 00 00 FF 79",
+     {{0, 0, 2}, {0, 0, 2}}},
+    {"Tiny: batch 10000",
+     3,
+     "56 02 0D 80 00 01 00 00 20 20 10 27 5B",
+     {{0, 0, 1}, {7, 3, 0}}},
+    {"Tiny: 80h twice",
+     3,
+     "56 02 16 80 00 01 00 00 20 20 0F 27 80 00 01 00 00 20 20 0F 27 4B",
+     {{0, 0, 2}, {8, 12, 0}}},
+    {"D18: a string number without a pool", 3, "56 02 06 10 07 A2", {{0, 0, 1}, {0, 0, 1}}},
+
+    {"format 0", 0, "00", {{16, 0, 0}, {16, 0, 0}}},
+    {"D6: format 257", 257, "FB FB 05 FF", {{16, 0, 0}, {16, 0, 0}}},
+    {"D6: format 2^31 + 2", 0x80000002, "00", {{16, 0, 0}, {16, 0, 0}}},
+};
+
+/* All other calls on an image that check refuses: they refuse it alike and change nothing. */
+static void refused_alike(uint32_t format, struct lent image, struct outcome outcome,
+                          const char *what)
+{
+    struct lent records = lend(130), out = lend(100), walk = lend(BOARDID_WALK_SIZE);
+    static const uint8_t value[] = {0x42};
+
+    expect_answer(boardid_list_entries(format, image.bytes, image.length, records.bytes,
+                                       records.length),
+                  outcome, what);
+    expect_answer(boardid_entry_at(format, image.bytes, image.length, 0, records.bytes,
+                                   records.length),
+                  outcome, what);
+    expect_answer(boardid_entry_at(format, image.bytes, image.length, 0, NULL, 0), outcome, what);
+    expect_answer(boardid_value_at(format, image.bytes, image.length, 0), outcome, what);
+    if (format == BOARDID_FORMAT_TINY) {
+        expect_answer(boardid_string_at(format, image.bytes, image.length, 0), outcome, what);
+    } else {
+        expect_refused(boardid_string_at(format, image.bytes, image.length, 0), 16, 0, what);
+    }
+    boardid_walk_set(walk.bytes, format, 0);
+    expect_answer(boardid_walk_step(walk.bytes, walk.length, image.bytes, image.length,
+                                    records.bytes, records.length),
+                  outcome, what);
+    expect_number(boardid_walk_format(walk.bytes), format, what);
+    expect_number(boardid_walk_edition(walk.bytes), BOARDID_EDITION, what);
+    expect_number(boardid_walk_entry(walk.bytes), 0, what);
+    expect_answer(boardid_edit_entry(format, image.bytes, image.length, 5, value, sizeof value,
+                                     out.bytes, out.length),
+                  outcome, what);
+    expect(all_are(records, 0, 0x5A), what);
+    expect(all_are(out, 0, 0x5A), what);
+    give_back(walk);
+    give_back(out);
+    give_back(records);
+}
+
+/* What holds of every record of an accepted image. */
+static void record_holds(uint32_t format, struct boardid_record record, const char *what)
+{
+    uint32_t i;
+
+    expect(record.kind == 0 || record.kind == BOARDID_KIND(format, record.code), what);
+    expect(record.kind != 0 || record.reading == BOARDID_READING_PLAIN_BYTES, what);
+    expect_number(record.reserved, 0, what);
+    if (format != BOARDID_FORMAT_VPD) {
+        expect_number(record.key_place, record.value_place, what);
+        expect_number(record.key_length, 0, what);
+    }
+    for (i = 0; i < 7; i++) {
+        expect(record.reading >= BOARDID_READING_NUMBER || record.carried[i] == 0, what);
+    }
+}
+
+/* Entry n of an accepted image by every call that gives one entry, against its record in the list. */
+static void one_entry(uint32_t format, struct lent image, uint32_t n, const uint8_t *bytes,
+                      const char *what)
+{
+    struct boardid_record record = boardid_record_at(bytes, 0);
+    struct lent lent = lend(BOARDID_RECORD_SIZE + 5), cut = lend(BOARDID_RECORD_SIZE - 1);
+    struct lent walk = lend(BOARDID_WALK_SIZE), out = lend(image.length + 8);
+    uint64_t answer;
+
+    record_holds(format, record, what);
+    expect_count(boardid_entry_at(format, image.bytes, image.length, n, lent.bytes, lent.length), 1,
+                 what);
+    expect(memcmp(lent.bytes, bytes, BOARDID_RECORD_SIZE) == 0, what);
+    expect(all_are(lent, BOARDID_RECORD_SIZE, 0x5A), what);
+    expect_refused(boardid_entry_at(format, image.bytes, image.length, n, cut.bytes, cut.length),
+                   12, 0, what);
+
+    answer = boardid_value_at(format, image.bytes, image.length, n);
+    expect_number(answer, (uint64_t)record.value_length << 32 | record.value_place, what);
+    expect_number(boardid_answer_part(answer).place, record.value_place, what);
+    expect_number(boardid_answer_part(answer).length, record.value_length, what);
+
+    memset(lent.bytes, 0x5A, lent.length);
+    boardid_walk_set(walk.bytes, format, n);
+    expect_refused(boardid_walk_step(walk.bytes, walk.length, image.bytes, image.length, cut.bytes,
+                                     cut.length),
+                   12, 0, what);
+    expect_number(boardid_walk_entry(walk.bytes), n, what);
+    expect(all_are(cut, 0, 0x5A), what);
+    expect_count(boardid_walk_step(walk.bytes, walk.length, image.bytes, image.length, lent.bytes,
+                                   lent.length),
+                 1, what);
+    expect(memcmp(lent.bytes, bytes, BOARDID_RECORD_SIZE) == 0, what);
+    expect_number(boardid_walk_format(walk.bytes), format, what);
+    expect_number(boardid_walk_edition(walk.bytes), BOARDID_EDITION, what);
+    expect_number(boardid_walk_entry(walk.bytes), (uint64_t)n + 1, what);
+
+    /* An edit to the value that is there: refused exactly where the code has no name. */
+    answer = boardid_edit_entry(format, image.bytes, image.length, n,
+                                image.bytes + record.value_place, record.value_length, out.bytes,
+                                out.length);
+    if (record.kind == 0) {
+        expect_refused(answer, 14, record.place, what);
+        expect(all_are(out, 0, 0x5A), what);
+    } else {
+        expect_number(boardid_answer_number(answer), 0, what);
+        expect(boardid_answer_count(answer) <= image.length, what);
+        expect(all_are(out, boardid_answer_count(answer), 0xFF), what);
+    }
+    give_back(out);
+    give_back(walk);
+    give_back(cut);
+    give_back(lent);
+}
+
+/* All other calls on an image that check accepts. */
+static void accepted_alike(uint32_t format, struct lent image, uint32_t count, const char *what)
+{
+    size_t size = (size_t)count * BOARDID_RECORD_SIZE;
+    struct lent records = lend(size + 70), walk = lend(BOARDID_WALK_SIZE), few;
+    struct lent record = lend(BOARDID_RECORD_SIZE);
+    uint32_t n;
+
+    expect_count(boardid_list_entries(format, image.bytes, image.length, records.bytes,
+                                      records.length),
+                 count, what);
+    expect(all_are(records, size, 0x5A), what);
+    if (count == 0) {
+        expect_count(boardid_list_entries(format, image.bytes, image.length, NULL, 0), 0, what);
+    } else {
+        few = lend(size - 1);
+        expect_refused(boardid_list_entries(format, image.bytes, image.length, few.bytes,
+                                            few.length),
+                       12, 0, what);
+        expect(all_are(few, 0, 0x5A), what);
+        give_back(few);
+    }
+    for (n = 0; n < count; n++) {
+        one_entry(format, image, n, records.bytes + (size_t)n * BOARDID_RECORD_SIZE, what);
+    }
+    boardid_walk_set(walk.bytes, format, 0);
+    for (n = 0; n < count; n++) {
+        expect_count(boardid_walk_step(walk.bytes, walk.length, image.bytes, image.length,
+                                       record.bytes, record.length),
+                     1, what);
+        expect(memcmp(record.bytes, records.bytes + (size_t)n * BOARDID_RECORD_SIZE,
+                      BOARDID_RECORD_SIZE) == 0,
+               what);
+    }
+    expect_refused(boardid_walk_step(walk.bytes, walk.length, image.bytes, image.length,
+                                     record.bytes, record.length),
+                   13, 0, what);
+    expect_number(boardid_walk_entry(walk.bytes), count, what);
+    boardid_walk_set(walk.bytes, format, UINT64_MAX);
+    expect_refused(boardid_walk_step(walk.bytes, walk.length, image.bytes, image.length,
+                                     record.bytes, record.length),
+                   13, 0, what);
+    expect_number(boardid_walk_entry(walk.bytes), UINT64_MAX, what);
+    expect_refused(boardid_entry_at(format, image.bytes, image.length, count, NULL, 0), 13, 0,
+                   what);
+    expect_refused(boardid_entry_at(format, image.bytes, image.length, (uint64_t)1 << 32,
+                                    record.bytes, record.length),
+                   13, 0, what);
+    expect_refused(boardid_value_at(format, image.bytes, image.length, count), 13, 0, what);
+    expect_refused(boardid_value_at(format, image.bytes, image.length, (uint64_t)1 << 32), 13, 0,
+                   what);
+    expect_refused(boardid_edit_entry(format, image.bytes, image.length, count, NULL, 0, NULL, 0),
+                   13, 0, what);
+    if (format != BOARDID_FORMAT_TINY) {
+        expect_refused(boardid_string_at(format, image.bytes, image.length, 0), 16, 0, what);
+    }
+    give_back(record);
+    give_back(walk);
+    give_back(records);
+}
+
+static void images(void)
+{
+    size_t i;
+
+    for (i = 0; i < sizeof image_cases / sizeof image_cases[0]; i++) {
+        const struct image_case *c = &image_cases[i];
+        struct outcome outcome = c->by_edition[BOARDID_EDITION - 1];
+        struct lent image = lend_hex(c->image), before = lend_copy(image.bytes, image.length);
+
+        expect_answer(boardid_check_image(c->format, image.bytes, image.length), outcome, c->what);
+        if (outcome.number != 0) {
+            refused_alike(c->format, image, outcome, c->what);
+        } else {
+            accepted_alike(c->format, image, outcome.count, c->what);
+        }
+        expect(same_bytes(image, before), c->what);
+        give_back(before);
+        give_back(image);
+    }
+}
+
+/* ---- Records -------------------------------------------------------------------------------- */
+
+/* The words of a record that carry something: code, edition that names it, then words 2 to 15. */
+struct record_case {
+    uint32_t code;
+    uint32_t since;
+    uint32_t places[5]; /* words 2 to 6 */
+    uint32_t reading;
+    uint32_t carried[7];
+};
+
+static void expect_records(uint32_t format, const char *hex, const struct record_case *cases,
+                           size_t count, const char *what)
+{
+    struct lent image = lend_hex(hex), records = lend(count * BOARDID_RECORD_SIZE);
+    size_t n, i;
+
+    expect_count(boardid_list_entries(format, image.bytes, image.length, records.bytes,
+                                      records.length),
+                 (uint32_t)count, what);
+    for (n = 0; n < count; n++) {
+        const struct record_case *c = &cases[n];
+        const uint8_t *bytes = records.bytes + n * BOARDID_RECORD_SIZE;
+        int named = c->since != 0 && c->since <= BOARDID_EDITION;
+
+        expect_number(boardid_word_at(bytes, 0), c->code, what);
+        expect_number(boardid_word_at(bytes, 1), named ? format * 256 + c->code : 0, what);
+        for (i = 0; i < 5; i++) {
+            expect_number(boardid_word_at(bytes, 2 + i), c->places[i], what);
+        }
+        expect_number(boardid_word_at(bytes, 7), 0, what);
+        expect_number(boardid_word_at(bytes, 8), named ? c->reading : 0, what);
+        for (i = 0; i < 7; i++) {
+            expect_number(boardid_word_at(bytes, 9 + i), named ? c->carried[i] : 0, what);
+        }
+    }
+    give_back(records);
+    give_back(image);
+}
+
+static void records(void)
+{
+    static const struct record_case fboss[] = {
+        {8, 1, {4, 6, 0, 6, 1}, 2, {0xFE, 0, 0, 0, 0, 0, 0}},
+        {1, 1, {7, 9, 0, 9, 2}, 1, {0, 0, 0, 0, 0, 0, 0}},
+        {9, 1, {11, 13, 0, 13, 1}, 2, {2, 0, 0, 0, 0, 0, 0}},
+        {10, 1, {14, 16, 0, 16, 1}, 2, {3, 0, 0, 0, 0, 0, 0}},
+        {11, 1, {17, 19, 0, 19, 0}, 1, {0, 0, 0, 0, 0, 0, 0}},
+        {21, 0, {19, 21, 0, 21, 2}, 0, {0, 0, 0, 0, 0, 0, 0}},
+        {20, 2, {23, 25, 0, 25, 8}, 3, {0x021A, 0x2B3C4D5E, 0x0102, 0, 0, 0, 0}},
+    };
+    static const struct record_case vpd[] = {
+        {0x01, 1, {0, 3, 3, 9, 2}, 0, {0, 0, 0, 0, 0, 0, 0}},
+        {0xFE, 2, {11, 13, 0, 14, 4}, 0, {0, 0, 0, 0, 0, 0, 0}},
+        {0x01, 1, {18, 20, 1, 22, 0}, 0, {0, 0, 0, 0, 0, 0, 0}},
+    };
+    static const struct record_case tiny[] = {
+        {0x10, 1, {3, 4, 0, 4, 1}, 4, {1, 0, 0, 0, 0, 0, 0}},
+        {0x11, 1, {5, 6, 0, 6, 1}, 5, {0xF5, 2, 0, 0, 0, 0, 0}},
+        {0x60, 1, {7, 8, 0, 8, 6}, 3, {0x021A, 0x2B3C4D5E, 1, 0, 0, 0, 0}},
+        {0x61, 1, {14, 15, 0, 15, 6}, 6, {0, 1, 0x80, 5, 0x41, 0x31, 0}},
+        {0x02, 0, {21, 23, 0, 23, 1}, 0, {0, 0, 0, 0, 0, 0, 0}},
+        {0x81, 2, {24, 25, 0, 25, 8}, 7, {0, 1, 0x99, 0x63, 0, 0xFF, 9999}},
+        {0x01, 1, {33, 35, 0, 35, 4}, 0, {0, 0, 0, 0, 0, 0, 0}},
+    };
+
+    expect_records(1,
+                   "FB FB 05 FF 08 01 FE 01 02 41 42 09 01 02 0A 01 03 0B 00 15 02 00 FF "
+                   "14 08 02 1A 2B 3C 4D 5E 01 02 FA 02 AB E4",
+                   fboss, sizeof fboss / sizeof fboss[0], "records of FBOSS");
+    expect_records(2, "01 80 03 53 4B 55 80 80 02 41 37 FE 00 04 01 02 03 04 01 01 5F 00 FF", vpd,
+                   sizeof vpd / sizeof vpd[0], "records of VPD");
+    expect_records(3,
+                   "56 02 28 10 01 11 F5 60 02 1A 2B 3C 4D 5E 61 00 01 80 05 41 31 02 01 AA "
+                   "81 00 01 99 63 00 FF 0F 27 01 04 41 C2 C3 44 DE",
+                   tiny, sizeof tiny / sizeof tiny[0], "records of Tiny");
+}
+
+/* ---- Strings, walks, editions --------------------------------------------------------------- */
+
+static void expect_string(const char *hex, uint64_t number, uint32_t place, uint32_t length,
+                          const char *what)
+{
+    struct lent image = lend_hex(hex);
+    uint64_t answer = boardid_string_at(BOARDID_FORMAT_TINY, image.bytes, image.length, number);
+
+    if (length == 0) {
+        expect_refused(answer, 15, 0, what);
+    } else {
+        expect_number(answer, (uint64_t)length << 32 | place, what);
+        expect_number(boardid_answer_part(answer).place, place, what);
+        expect_number(boardid_answer_part(answer).length, length, what);
+    }
+    give_back(image);
+}
+
+static void strings(void)
+{
+    expect_string("56 02 06 01 00 F5", 0, 0, 0, "D19: an empty pool");
+    expect_string("56 02 08 01 02 41 42 56", 0, 0, 0, "D19: an unfinished tail");
+    expect_string("56 02 0A 01 04 41 C2 C3 44 82", 0, 5, 2, "D19: string 0");
+    expect_string("56 02 0A 01 04 41 C2 C3 44 82", 1, 7, 1, "D19: string 1");
+    expect_string("56 02 0A 01 04 41 C2 C3 44 82", 2, 0, 0, "D19: string 2");
+    expect_string("56 02 0A 01 04 41 C2 C3 44 82", (uint64_t)1 << 32, 0, 0, "D6: string 2^32");
+    expect_string("56 02 04 6F", 0, 0, 0, "D19: no pool");
+    expect_string("56 02 06 10 07 A2", 7, 0, 0, "D18: string 7");
+}
+
+static void cut_walks(void)
+{
+    struct lent image = lend_hex("00"), record = lend(BOARDID_RECORD_SIZE);
+    struct lent walk = lend(BOARDID_WALK_SIZE), longer = lend(BOARDID_WALK_SIZE + 3);
+
+    boardid_walk_set(walk.bytes, BOARDID_FORMAT_VPD, 0);
+    expect_refused(boardid_walk_step(walk.bytes, 15, image.bytes, image.length, record.bytes,
+                                     record.length),
+                   16, 0, "a walk of 15 bytes");
+    expect_refused(boardid_walk_step(NULL, 0, image.bytes, image.length, record.bytes,
+                                     record.length),
+                   16, 0, "a walk of no bytes");
+    boardid_word_set(walk.bytes, 1, 99);
+    expect_refused(boardid_walk_step(walk.bytes, walk.length, image.bytes, image.length,
+                                     record.bytes, record.length),
+                   1, 0, "a walk of an unknown edition");
+    expect(all_are(record, 0, 0x5A), "a refused step leaves the record");
+    give_back(image);
+
+    image = lend_hex("01 03 53 4B 55 02 41 37 00");
+    boardid_walk_set(longer.bytes, BOARDID_FORMAT_VPD, 0);
+    expect_count(boardid_walk_step(longer.bytes, longer.length, image.bytes, image.length,
+                                   record.bytes, record.length),
+                 1, "a walk of 19 bytes");
+    expect_number(boardid_walk_entry(longer.bytes), 1, "a walk of 19 bytes is moved on");
+    expect(all_are(longer, BOARDID_WALK_SIZE, 0x5A), "bytes past the walk stay");
+    give_back(longer);
+    give_back(walk);
+    give_back(record);
+    give_back(image);
+}
+
+/* The exported calls with editions that no header has. */
+static void editions(void)
+{
+    static const uint32_t unknown[] = {0, 99, 257, 0x80000001};
+    struct lent image = lend_hex("56 02 04 6F"), record = lend(64), out = lend(10);
+    size_t i;
+
+    for (i = 0; i < sizeof unknown / sizeof unknown[0]; i++) {
+        uint32_t e = unknown[i];
+
+        expect_refused(boardid_check(3, e, image.bytes, image.length), 1, 0, "edition: check");
+        expect_refused(boardid_list(3, e, image.bytes, image.length, record.bytes, 64), 1, 0,
+                       "edition: list");
+        expect_refused(boardid_entry(3, e, image.bytes, image.length, 0, record.bytes, 64), 1, 0,
+                       "edition: entry");
+        expect_refused(boardid_value(3, e, image.bytes, image.length, 0), 1, 0, "edition: value");
+        expect_refused(boardid_string(3, e, image.bytes, image.length, 0), 1, 0,
+                       "edition: string");
+        expect_refused(boardid_write(3, e, NULL, 0, NULL, 0, out.bytes, out.length), 1, 0,
+                       "edition: write");
+        expect_refused(boardid_edit(3, e, image.bytes, image.length, 0, NULL, 0, out.bytes,
+                                    out.length),
+                       1, 0, "edition: edit");
+        expect_refused(boardid_check(0, e, image.bytes, image.length), 16, 0, "16 before 1");
+        expect_refused(boardid_string(1, e, image.bytes, image.length, 0), 16, 0,
+                       "D19: 16 before 1");
+        expect_refused(boardid_write(0, e, NULL, 0, NULL, 0, out.bytes, out.length), 16, 0,
+                       "write: 16 before 1");
+    }
+    expect(all_are(record, 0, 0x5A), "an unknown edition leaves the record");
+    expect(all_are(out, 0, 0x5A), "an unknown edition leaves the output");
+    give_back(out);
+    give_back(record);
+    give_back(image);
+}
+
+/* ---- Writes --------------------------------------------------------------------------------- */
+
+/* A write: its fields, the lent values, the room, and the answer with the image. */
+struct write_case {
+    const char *what;
+    uint32_t format;
+    size_t count;
+    struct boardid_field fields[6];
+    const char *values;
+    size_t out_length;
+    struct outcome by_edition[2];
+    const char *image;
+};
+
+static const struct write_case write_cases[] = {
+    {"D3: an empty part at the end", 2, 1, {{1, 0, 3, 5, 0}}, "53 4B 55 41 37", 10,
+     {{0, 0, 7}, {0, 0, 7}}, "01 03 53 4B 55 00 00"},
+    {"D3: an empty part past the end", 2, 1, {{1, 0, 3, 6, 0}}, "53 4B 55 41 37", 10,
+     {{13, 0, 0}, {13, 0, 0}}, ""},
+    {"D3: a part over the end", 2, 1, {{1, 0, 3, 4, 2}}, "53 4B 55 41 37", 10,
+     {{13, 0, 0}, {13, 0, 0}}, ""},
+    {"D3: a sum that would wrap", 2, 1, {{1, 0, 3, 0xFFFFFFFF, 2}}, "53 4B 55 41 37", 10,
+     {{13, 0, 0}, {13, 0, 0}}, ""},
+    {"D3: a key over the end", 2, 1, {{1, 3, 3, 0, 0}}, "53 4B 55 41 37", 10,
+     {{13, 0, 0}, {13, 0, 0}}, ""},
+    {"no values", 2, 1, {{1, 0, 1, 0, 0}}, "", 10, {{13, 0, 0}, {13, 0, 0}}, ""},
+    {"SKU", 2, 1, {{1, 0, 3, 3, 2}}, "53 4B 55 41 37", 9, {{0, 0, 9}, {0, 0, 9}},
+     "01 03 53 4B 55 02 41 37 00"},
+    {"SKU without room", 2, 1, {{1, 0, 3, 3, 2}}, "53 4B 55 41 37", 8,
+     {{12, 0, 0}, {12, 0, 0}}, ""},
+    {"a key outside the alphabet", 2, 1, {{1, 0, 3, 3, 2}}, "53 2E 55 41 37", 20,
+     {{7, 0, 0}, {7, 0, 0}}, ""},
+    {"FEh", 2, 2, {{1, 0, 3, 3, 2}, {0xFE, 0, 0, 0, 4}}, "53 4B 55 41 37", 20,
+     {{14, 1, 0}, {0, 0, 16}}, "01 03 53 4B 55 02 41 37 FE 00 04 53 4B 55 41 00"},
+    {"a key twice", 2, 2, {{1, 0, 1, 0, 0}, {1, 0, 1, 1, 1}}, "53 4B", 20,
+     {{8, 1, 0}, {8, 1, 0}}, ""},
+    {"D10: field by field", 2, 2, {{1, 0, 0, 0, 1}, {2, 0, 1, 0, 1}}, "53 4B 55 41 37", 20,
+     {{7, 0, 0}, {7, 0, 0}}, ""},
+    {"D10: 14 after a pool", 3, 2, {{1, 0, 0, 0, 2}, {0x20, 0, 0, 9, 9}}, "53 4B 55 41 37", 20,
+     {{14, 1, 0}, {14, 1, 0}}, ""},
+    {"D10: 13 after a pool", 3, 2, {{1, 0, 0, 0, 2}, {0x10, 0, 0, 9, 1}}, "53 4B 55 41 37", 20,
+     {{13, 1, 0}, {13, 1, 0}}, ""},
+    {"D10: 9 before 7", 3, 2, {{1, 0, 0, 0, 2}, {0x10, 0, 0, 0, 2}}, "53 4B 55 41 37", 20,
+     {{9, 1, 0}, {9, 1, 0}}, ""},
+    {"D10: a second pool", 3, 2, {{1, 0, 0, 0, 2}, {1, 0, 0, 0, 2}}, "53 4B 55 41 37", 20,
+     {{9, 1, 0}, {9, 1, 0}}, ""},
+    {"D10: a code that no entry has", 1, 1, {{250, 0, 0, 0, 2}}, "53 4B", 20,
+     {{14, 0, 0}, {14, 0, 0}}, ""},
+    {"D6: code 257", 1, 1, {{257, 0, 0, 0, 2}}, "53 4B", 20, {{14, 0, 0}, {14, 0, 0}}, ""},
+    {"D11: FBOSS of no fields", 1, 0, {{0, 0, 0, 0, 0}}, "", 0, {{11, 0, 0}, {11, 0, 0}}, ""},
+    {"D11: VPD of no fields", 2, 0, {{0, 0, 0, 0, 0}}, "", 3, {{0, 0, 1}, {0, 0, 1}}, "00"},
+    {"D11: VPD of no fields, no room", 2, 0, {{0, 0, 0, 0, 0}}, "", 0,
+     {{12, 0, 0}, {12, 0, 0}}, ""},
+    {"D11: Tiny of no fields", 3, 0, {{0, 0, 0, 0, 0}}, "", 4, {{0, 0, 4}, {0, 0, 4}},
+     "56 02 04 6F"},
+    {"D11: Tiny of no fields, no room", 3, 0, {{0, 0, 0, 0, 0}}, "", 3,
+     {{12, 0, 0}, {12, 0, 0}}, ""},
+    {"D12: a pool of one byte", 3, 1, {{1, 0, 0, 0, 1}}, "C1", 9, {{0, 0, 7}, {0, 0, 7}},
+     "56 02 07 01 01 C1 8F"},
+    {"FBOSS, what is required", 1, 5,
+     {{1, 9, 9, 3, 0}, {8, 0, 0, 0, 1}, {9, 0, 0, 1, 1}, {10, 0, 0, 2, 1}, {11, 0, 0, 0, 0}},
+     "01 02 03", 23, {{0, 0, 21}, {0, 0, 21}},
+     "FB FB 05 FF 01 00 08 01 01 09 01 02 0A 01 03 0B 00 FA 02 82 1E"},
+    {"FBOSS with 17", 1, 6,
+     {{1, 0, 0, 0, 0}, {8, 0, 0, 0, 1}, {9, 0, 0, 0, 1}, {10, 0, 0, 0, 1}, {11, 0, 0, 0, 0},
+      {17, 0, 0, 1, 8}},
+     "01 02 00 00 00 00 01 00 00", 31, {{14, 5, 0}, {0, 0, 31}},
+     "FB FB 05 FF 01 00 08 01 01 09 01 01 0A 01 01 0B 00 11 08 02 00 00 00 00 01 00 00 FA 02 12 06"},
+    {"FBOSS without 11", 1, 4,
+     {{1, 0, 0, 0, 0}, {8, 0, 0, 0, 1}, {9, 0, 0, 1, 1}, {10, 0, 0, 2, 1}},
+     "01 02 03", 0, {{11, 0, 0}, {11, 0, 0}}, ""},
+    {"format 0", 0, 0, {{0, 0, 0, 0, 0}}, "", 3, {{16, 0, 0}, {16, 0, 0}}, ""},
+};
+
+/* Expects that an output holds an image, FFh after it, or nothing new where it was refused. */
+static void expect_output(struct lent out, struct outcome outcome, const char *hex,
+                          const char *what)
+{
+    struct lent image = lend_hex(hex);
+
+    if (outcome.number != 0) {
+        expect(all_are(out, 0, 0x5A), what);
+    } else {
+        expect_number(image.length, outcome.count, what);
+        expect(image.length <= out.length && memcmp(out.bytes, image.bytes, image.length) == 0,
+               what);
+        expect(all_are(out, image.length, 0xFF), what);
+    }
+    give_back(image);
+}
+
+static void writes(void)
+{
+    size_t i, k;
+
+    for (i = 0; i < sizeof write_cases / sizeof write_cases[0]; i++) {
+        const struct write_case *c = &write_cases[i];
+        struct outcome outcome = c->by_edition[BOARDID_EDITION - 1];
+        struct lent fields = lend(c->count * BOARDID_FIELD_SIZE);
+        struct lent cut = lend(c->count * BOARDID_FIELD_SIZE + BOARDID_FIELD_SIZE - 1);
+        struct lent values = lend_hex(c->values), out = lend(c->out_length);
+
+        for (k = 0; k < c->count; k++) {
+            boardid_field_set(fields.bytes, k, c->fields[k]);
+            boardid_field_set(cut.bytes, k, c->fields[k]);
+        }
+        expect_answer(boardid_write_image(c->format, fields.bytes, fields.length, values.bytes,
+                                          values.length, out.bytes, out.length),
+                      outcome, c->what);
+        expect_output(out, outcome, c->image, c->what);
+        memset(out.bytes, 0x5A, out.length);
+        expect_answer(boardid_write_image(c->format, cut.bytes, cut.length, values.bytes,
+                                          values.length, out.bytes, out.length),
+                      outcome, c->what);
+        expect_output(out, outcome, c->image, c->what);
+        give_back(out);
+        give_back(values);
+        give_back(cut);
+        give_back(fields);
+    }
+}
+
+/* ---- Edits ---------------------------------------------------------------------------------- */
+
+struct edit_case {
+    const char *what;
+    uint32_t format;
+    const char *image;
+    uint64_t n;
+    const char *value;
+    size_t out_length;
+    struct outcome by_edition[2];
+    const char *edited;
+};
+
+static const struct edit_case edit_cases[] = {
+    {"SKU to B", 2, "01 03 53 4B 55 02 41 37 00", 0, "42", 10, {{0, 0, 8}, {0, 0, 8}},
+     "01 03 53 4B 55 01 42 00"},
+    {"SKU to B, no room", 2, "01 03 53 4B 55 02 41 37 00", 0, "42", 7, {{12, 0, 0}, {12, 0, 0}},
+     ""},
+    {"SKU to nothing", 2, "01 03 53 4B 55 02 41 37 00", 0, "", 7, {{0, 0, 7}, {0, 0, 7}},
+     "01 03 53 4B 55 00 00"},
+    {"D2: the key's length stays", 2, "01 80 03 53 4B 55 80 02 41 37 00", 0, "42", 11,
+     {{0, 0, 9}, {0, 0, 9}}, "01 80 03 53 4B 55 01 42 00"},
+    {"D13: an end FFh", 2, "01 03 53 4B 55 02 41 37 FF AA BB", 0, "42", 8,
+     {{0, 0, 8}, {0, 0, 8}}, "01 03 53 4B 55 01 42 00"},
+    {"D13: no room", 2, "01 03 53 4B 55 02 41 37 FF AA BB", 0, "42", 7,
+     {{12, 0, 0}, {12, 0, 0}}, ""},
+    {"D13: no entry 1", 2, "01 03 53 4B 55 02 41 37 FF AA BB", 1, "42", 8,
+     {{13, 0, 0}, {13, 0, 0}}, ""},
+    {"D13: the image's own first", 2, "01 00 00 00", 5, "42", 8, {{7, 0, 0}, {7, 0, 0}}, ""},
+    {"D13: FEh to three bytes", 2, "01 03 53 4B 55 02 41 37 FE 00 04 01 02 03 04 00", 1,
+     "01 02 03", 20, {{14, 8, 0}, {7, 8, 0}}, ""},
+    {"FEh to four bytes", 2, "01 03 53 4B 55 02 41 37 FE 00 04 01 02 03 04 00", 1, "05 06 07 08",
+     20, {{14, 8, 0}, {0, 0, 16}}, "01 03 53 4B 55 02 41 37 FE 00 04 05 06 07 08 00"},
+    {"what is not named stays", 2, "01 03 53 4B 55 02 41 37 FE 80 00 80 04 01 02 03 04 00", 0, "",
+     20, {{0, 0, 16}, {0, 0, 16}}, "01 03 53 4B 55 00 FE 80 00 80 04 01 02 03 04 00"},
+    {"D12: a pool", 3, "56 02 07 01 01 C1 8F", 0, "41 C2", 8, {{0, 0, 8}, {0, 0, 8}},
+     "56 02 08 01 02 41 C2 DF"},
+    {"Tiny: another length than the tag's", 3, "56 02 06 10 07 A2", 0, "00 00", 20,
+     {{7, 3, 0}, {7, 3, 0}}, ""},
+    {"FBOSS: a number of two bytes", 1,
+     "FB FB 05 FF 01 00 08 01 01 09 01 02 0A 01 03 0B 00 FA 02 82 1E", 1, "01 02", 40,
+     {{7, 6, 0}, {7, 6, 0}}, ""},
+    {"FBOSS: 17",
+     1,
+     "FB FB 05 FF 01 00 08 01 01 09 01 01 0A 01 01 0B 00 11 08 02 00 00 00 00 01 00 01 FA 02 02 27",
+     5,
+     "02 00 00 00 00 01 00 00",
+     40,
+     {{14, 17, 0}, {0, 0, 31}},
+     "FB FB 05 FF 01 00 08 01 01 09 01 01 0A 01 01 0B 00 11 08 02 00 00 00 00 01 00 00 FA 02 12 06"},
+};
+
+static void edits(void)
+{
+    size_t i;
+
+    for (i = 0; i < sizeof edit_cases / sizeof edit_cases[0]; i++) {
+        const struct edit_case *c = &edit_cases[i];
+        struct outcome outcome = c->by_edition[BOARDID_EDITION - 1];
+        struct lent image = lend_hex(c->image), before = lend_copy(image.bytes, image.length);
+        struct lent value = lend_hex(c->value), out = lend(c->out_length);
+
+        expect_answer(boardid_edit_entry(c->format, image.bytes, image.length, c->n, value.bytes,
+                                         value.length, out.bytes, out.length),
+                      outcome, c->what);
+        expect_output(out, outcome, c->edited, c->what);
+        expect(same_bytes(image, before), c->what);
+        give_back(out);
+        give_back(value);
+        give_back(before);
+        give_back(image);
+    }
+}
+
+/* ---- Sizes ---------------------------------------------------------------------------------- */
+
+/* An edit of a one-byte pool to a pool of a length: the answer of D12. */
+static void pool_of(size_t length, struct outcome outcome, const char *what)
+{
+    struct lent image = lend_hex("56 02 07 01 01 C1 8F"), value = lend(length), out = lend(300);
+    uint64_t answer;
+
+    memset(value.bytes, 0x41, value.length);
+    answer = boardid_edit_entry(3, image.bytes, image.length, 0, value.bytes, value.length,
+                                out.bytes, out.length);
+    expect_answer(answer, outcome, what);
+    if (outcome.number != 0) {
+        expect(all_are(out, 0, 0x5A), what);
+    } else {
+        expect_count(boardid_check_image(3, out.bytes, out.length), 1, what);
+        expect(all_are(out, outcome.count, 0xFF), what);
+    }
+    give_back(out);
+    give_back(value);
+    give_back(image);
+}
+
+/* A write of one VPD value of a length into the longest output: the answer of D9. */
+static void value_of(size_t length, struct outcome outcome, const char *what)
+{
+    static const uint8_t start[] = {0x01, 0x01, 0x41, 0x83, 0xFF, 0x79};
+    struct lent values = lend(length), out = lend(BOARDID_IMAGE_MAX), field = lend(20);
+    struct boardid_field whole = {BOARDID_VPD_STRING, 0, 1, 0, 0};
+
+    memset(values.bytes, 0x41, values.length);
+    whole.value_length = (uint32_t)length;
+    boardid_field_set(field.bytes, 0, whole);
+    expect_answer(boardid_write_image(2, field.bytes, field.length, values.bytes, values.length,
+                                      out.bytes, out.length),
+                  outcome, what);
+    if (outcome.number != 0) {
+        expect(all_are(out, 0, 0x5A), what);
+    } else {
+        expect(memcmp(out.bytes, start, sizeof start) == 0, what);
+        expect_number(out.bytes[BOARDID_IMAGE_MAX - 1], 0, what);
+        expect_count(boardid_check_image(2, out.bytes, out.length), 1, what);
+    }
+    give_back(field);
+    give_back(out);
+    give_back(values);
+}
+
+static void sizes(void)
+{
+    static const struct outcome pools[] = {{0, 0, 255}, {12, 0, 0}, {12, 0, 0}, {7, 3, 0}};
+    static const struct outcome values[] = {{0, 0, 65536}, {12, 0, 0}};
+    struct lent image = lend((size_t)BOARDID_IMAGE_MAX + 1), out, value;
+
+    /* The longest images. */
+    memset(image.bytes, 0, image.length);
+    expect_count(boardid_check_image(2, image.bytes, image.length - 1), 0, "D5: 65,536 bytes");
+    expect_refused(boardid_check_image(2, image.bytes, image.length), 2, 0, "D5: 65,537 bytes");
+    expect_refused(boardid_check_image(1, image.bytes, image.length), 2, 0, "2 before 3");
+    expect_refused(boardid_edit_entry(1, image.bytes, 1, 0, NULL, 0, image.bytes + 1, 0), 3, 0,
+                   "an image of one byte");
+    out = lend((size_t)BOARDID_IMAGE_MAX + 1);
+    expect_refused(boardid_edit_entry(1, image.bytes, 1, 0, NULL, 0, out.bytes, out.length), 2, 0,
+                   "D5: an output of 65,537 bytes");
+    expect_refused(boardid_write_image(2, NULL, 0, NULL, 0, out.bytes, out.length), 2, 0,
+                   "a write into 65,537 bytes");
+    expect(all_are(out, 0, 0x5A), "an output that is too long stays");
+    expect_count(boardid_write_image(2, NULL, 0, NULL, 0, out.bytes, out.length - 1), 1,
+                 "a write into 65,536 bytes");
+    expect_number(out.bytes[BOARDID_IMAGE_MAX], 0x5A, "a byte that is not lent");
+    give_back(out);
+
+    /* A value, a field list and records may have any length. */
+    value = lend(70000);
+    out = lend(100);
+    expect_count(boardid_check_image(2, (const uint8_t *)"\1\1A\0\0", 5), 1, "an empty value");
+    expect_refused(boardid_edit_entry(2, (const uint8_t *)"\1\1A\0\0", 5, 0, value.bytes,
+                                      value.length, out.bytes, out.length),
+                   12, 0, "a value of 70,000 bytes");
+    give_back(out);
+    give_back(value);
+
+    pool_of(249, pools[0], "D12: a pool of 249 bytes");
+    pool_of(250, pools[1], "D12: a pool of 250 bytes");
+    pool_of(255, pools[2], "D12: a pool of 255 bytes");
+    pool_of(256, pools[3], "D12: a pool of 256 bytes");
+    value_of(65529, values[0], "D9: a value of 65,529 bytes");
+    value_of(65530, values[1], "D9: a value of 65,530 bytes");
+    give_back(image);
+}
+
+/* The most entries that an image can have: code 99 with no value, again and again. */
+static void most_entries(void)
+{
+    static const uint8_t start[] = {0xFB, 0xFB, 0x05, 0xFF, 0x01, 0x00, 0x08, 0x01, 0x01,
+                                    0x09, 0x01, 0x02, 0x0A, 0x01, 0x03, 0x0B, 0x00};
+    static const uint8_t end[] = {0xFA, 0x02, 0x07, 0xA1, 0xFF}, two[] = {2};
+    const size_t count = 32762;
+    struct lent image = lend(BOARDID_IMAGE_MAX), edited = lend(BOARDID_IMAGE_MAX);
+    struct lent records = lend(count * BOARDID_RECORD_SIZE);
+    size_t i;
+
+    memcpy(image.bytes, start, sizeof start);
+    for (i = sizeof start; i < image.length - sizeof end; i += 2) {
+        image.bytes[i] = 99;
+        image.bytes[i + 1] = 0;
+    }
+    memcpy(image.bytes + i, end, sizeof end);
+    expect_count(boardid_check_image(1, image.bytes, image.length), (uint32_t)count,
+                 "32,762 entries");
+    expect_count(boardid_list_entries(1, image.bytes, image.length, records.bytes, records.length),
+                 (uint32_t)count, "a list of 32,762 entries");
+    expect_number(boardid_record_at(records.bytes, count - 1).code, 99, "the last entry");
+    expect_number(boardid_record_at(records.bytes, count - 1).place, i - 2, "its place");
+    expect_count(boardid_edit_entry(1, image.bytes, image.length, 1, two, sizeof two, edited.bytes,
+                                    edited.length),
+                 65535, "an edit among 32,762 entries");
+    expect_count(boardid_check_image(1, edited.bytes, edited.length), (uint32_t)count,
+                 "32,762 entries after an edit");
+    give_back(records);
+    give_back(edited);
+    give_back(image);
+}
+
+int main(void)
+{
+    images();
+    records();
+    strings();
+    cut_walks();
+    editions();
+    writes();
+    edits();
+    sizes();
+    most_entries();
+    return expectations_met("calls");
+}
