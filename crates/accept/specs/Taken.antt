@@ -17,8 +17,13 @@ abbrev pub roomEnd : Opened → ℕ
 roomEnd (Room start end) = end
 roomEnd (Closed r) = 0
 
+-- what is read, where the room ends at `end`
+abbrev pub roomTaken : Read → ℕ → Taken
+roomTaken (accepted f start rs) end = Is (record { format = f; start = start; end = end; over = start + length (flat rs); count = length rs })
+roomTaken (refused r) end = Isnt r
+
 abbrev pub takenBy : Read → List ℕ → Taken
-takenBy (accepted f start rs) image = Is (record { format = f; start = start; end = roomEnd (shape f .opened image); over = start + length (flat rs); count = length rs })
+takenBy (accepted f start rs) image = roomTaken (accepted f start rs) (roomEnd (shape f .opened image))
 takenBy (refused r) image = Isnt r
 
 unfoldable pub taken : ℕ → ℕ → List ℕ → Taken

@@ -2,13 +2,15 @@
 ghost use mathlib.Core.Path.{_≡_};
 ghost use mathlib.Core.Bool.{true, false};
 ghost use Prim.Native.Nat.{ℕ, _+_, _-_, _≤_, _<_};
-ghost use lib.ListN.{length, getD};
-ghost use Rattle.layout.specs.Bytes.{part, oneOf};
-ghost use Rattle.layout.specs.Shape.{Label};
+ghost use lib.ListN.{length, take};
+ghost use Rattle.layout.specs.Bytes.{part};
 ghost use Rattle.layout.specs.Editions.{shape};
-ghost use Rattle.layout.specs.Read.{seenBefore, codesOf, fault, complete, checkPlace};
-ghost use Rattle.accept.specs.Passes.{walked, endingOf, IsDone, rawsIn, labels, before, judged};
-ghost use Rattle.accept.specs.Taken.{taken};
+ghost use Rattle.layout.specs.Walk.{content};
+ghost use Rattle.layout.specs.Read.{seenBefore, codesOf, fault, readWalked};
+ghost use Rattle.laws.specs.Passes.{walked, IsDone, rawsIn, labels, before};
+ghost use Rattle.laws.proofs.Marks.{Marks};
+ghost use Rattle.accept.specs.Passes.{endingOf, judged};
+ghost use Rattle.accept.specs.Taken.{roomTaken, taken};
 use layout::Chosen;
 use layout::Format;
 use layout::Frame;
@@ -79,10 +81,9 @@ fn seen_key(image: &[u8], start: usize, end: usize, p: usize, key: &[u8]) -> boo
         let x = frames::next_frame(Format::Vpd, false, image, q, end);
         match x {
             Next::Framed(f) => {
-                if f.code == 1 {
-                    if parts::same_bytes(key, frames::part_of(image, q + f.key, f.klen)) {
-                        return true;
-                    }
+                let other = frames::part_of(image, q + f.key, f.klen);
+                if (1 == f.code) & parts::same_bytes(key, other) {
+                    return true;
                 }
                 q += f.size;
             }
@@ -107,21 +108,25 @@ fn is_seen(
     code: u32,
     key: &[u8],
     seen: &[u8; 256],
-) -> bool {
+) -> bool
+    requires { ⌜ (start ≤ end) × IsDone (walked format (now image) start end) × (code < 256) ⌝ }
+    requires { ⌜ Marks (codesOf (before (rawsIn (walked format (now image) start end)) start p)) (now seen) ⌝ }
+    ensures { λ r. ⌜ r ≡ seenBefore (shape format) (labels (before (rawsIn (walked format (now (image .entry)) start end)) start p)) (record { code = code; key = now (key .entry) }) ⌝ }
+{
+    let at = code as usize;
     match format {
+        Format::Fboss => seen[at] != 0,
         Format::Vpd => {
             if code == 1 {
                 return seen_key(image, start, end, p, key);
             }
+            seen[at] != 0
         }
-        Format::Fboss => {}
-        Format::Tiny => {}
+        Format::Tiny => seen[at] != 0,
     }
-    let at = (code % 256) as usize;
-    seen[at] != 0
 }
 
-// What is wrong with the entry at p: 7, then 8, and 0 for nothing.
+// What is wrong with the entry at p that has this frame: 7, then 8, and 0 for nothing.
 fn fault_at(
     format: Format,
     edition: u32,
@@ -131,7 +136,12 @@ fn fault_at(
     p: usize,
     f: Frame,
     seen: &[u8; 256],
-) -> u32 {
+) -> u32
+    requires { ⌜ (start ≤ end) × IsDone (walked format (now image) start end) × (f .code < 256) ⌝ }
+    requires { ⌜ Marks (codesOf (before (rawsIn (walked format (now image) start end)) start p)) (now seen) ⌝ }
+    requires { ⌜ (p + f .size ≤ end) × (f .key + f .klen ≤ f .size) × (f .val + f .vlen ≤ f .size) × (f .size ≤ length (part p (end - p) (now image))) ⌝ }
+    ensures { λ r. ⌜ r ≡ fault (shape format) edition (labels (before (rawsIn (walked format (now (image .entry)) start end)) start p)) (content (record { bytes = take (f .size) (part p (end - p) (now (image .entry))); frame = f })) ⌝ }
+{
     let code = f.code;
     if !frames::is_named(format, edition, code) {
         return 0;
@@ -166,7 +176,7 @@ fn judge_image(format: Format, edition: u32, image: &[u8], start: usize, end: us
                     return Judgement::Faulty(k, p);
                 }
                 let code = f.code;
-                let at = (code % 256) as usize;
+                let at = code as usize;
                 seen[at] = 1;
                 shut = frames::is_last(format, code);
                 p += f.size;
@@ -205,7 +215,10 @@ fn closing_length(format: Format) -> usize
 }
 
 // An image whose entries have the room from start to end.
-fn take_room(format: Format, edition: u32, image: &[u8], start: usize, end: usize) -> Taken {
+fn take_room(format: Format, edition: u32, image: &[u8], start: usize, end: usize) -> Taken
+    requires { ⌜ (start ≤ end) × (end ≤ 65536) ⌝ }
+    ensures { λ r. ⌜ r ≡ roomTaken (readWalked (walked format (now (image .entry)) start end) format edition (now (image .entry)) start) end ⌝ }
+{
     let w = walk_image(format, image, start, end);
     match w {
         Ending::Stops(k, p) => refused(k, p),

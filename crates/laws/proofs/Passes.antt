@@ -1,23 +1,28 @@
 -- A pass over the entries of a walk that came to its end: where it stands, and how it goes on. The loops of the readers go by this.
 -- Assumes nothing.
 use Prim.Native.Nat.{ℕ, zero, suc, _+_, _-_, _≤_, _<_}
-use mathlib.Core.Path.{_≡_, refl, ap, sym, _∙_}
+use mathlib.Core.Path.{_≡_, refl, ap, ap₂, sym, _∙_}
 use mathlib.Core.List.{List, [], _∷_, _++_, append-assoc, append-nil}
 use mathlib.Core.Bool.{Bool, true, false}
 use native.Mathlib.Omega.{arith}
 use native.Mathlib.Nat.{add-zero}
 use lib.ListN.{length, getD, take, drop, length-append, length-drop, length-take}
-use lib.Seq.{take-at, drop-at, drop-drop, take-nil, getD-take, getD-drop}
+use lib.Seq.{take-take, take-at, drop-at, drop-drop, take-nil, getD-take, getD-drop}
+use borrow.Author.Tests.{lt-ltb, le-ltb}
 use Rattle.layout.specs.declared.Frame.{Frame}
 use Rattle.layout.specs.declared.Headed.the-variants.{Ends}
 use Rattle.layout.specs.declared.Next.the-variants.{Framed, Ended, Broken}
 use Rattle.layout.specs.Bytes.{part}
 use Rattle.layout.specs.Shape.{Shape, onHead, next}
-use Rattle.layout.specs.Walk.{Raw, flat}
-use Rattle.laws.specs.Grammar.{Grammar}
+use Rattle.layout.specs.declared.Format.{Format}
+use Rattle.layout.specs.Editions.{shape}
+use Rattle.layout.specs.Walk.{Raw, flat, Walked, done, stop}
+use Rattle.laws.specs.Grammar.{Grammar, grammar}
+use Rattle.laws.specs.Passes.{walked, IsDone, rawsIn, before}
 use Rattle.laws.proofs.Format.{Laws}
-use Rattle.laws.proofs.Frames.{rawOf, IsRaw, raw-size, raw-reads}
-use Rattle.laws.proofs.Walking.{Frames, EndsAt}
+use Rattle.laws.proofs.Frames.{rawOf, IsRaw, raw-size, raw-some, raw-reads}
+use Rattle.laws.proofs.Walking.{Frames, EndsAt, Decoded, walk-decode, decoded-ends}
+use Rattle.laws.proofs.Formats.{laws}
 
 drop-take : (n m : ℕ) (l : List ℕ) → drop n (take m l) ≡ take (m - n) (drop n l)
 drop-take zero m l = ap (λ (k : ℕ). take k l) (let q : m ≡ m - 0 = omega arith in q)
@@ -62,6 +67,16 @@ pub part-byte : (image : List ℕ) (p n i : ℕ) → i < n → getD (part p n im
 unfolding part
 part-byte image p n i lt = getD-take n (drop p image) i 0 lt ∙ getD-drop p image i 0
 
+-- a part of an entry that stands at p is a part of the image
+pub part-within : (image : List ℕ) (p m a n size : ℕ) → a + n ≤ size → size ≤ length (part p m image) → part a n (take size (part p m image)) ≡ part (p + a) n image
+unfolding part
+part-within image p m a n size le fits =
+    let long : size ≤ m = omega (arith, length-take m (drop p image)) in
+    ap (take n) (drop-take a size (take m (drop p image)) ∙ ap (take (size - a)) (drop-take a m (drop p image)))
+    ∙ take-take n (size - a) (take (m - a) (drop a (drop p image))) (omega arith)
+    ∙ take-take n (m - a) (drop a (drop p image)) (omega arith)
+    ∙ ap (take n) (drop-drop a p image)
+
 -- the entries laid flat, one more
 pub flat-snoc : (rs : List Raw) (r : Raw) → flat (rs ++ (r ∷ [])) ≡ flat rs ++ r .bytes
 flat-snoc [] r = append-nil (r .bytes)
@@ -81,6 +96,7 @@ module _ {S : Shape} {G : Grammar} (L : Laws S G) (image : List ℕ) (start end 
     pub heads : was .todo ≡ raw ∷ todo
     pub isRaw : IsRaw G raw
     pub frame : raw .frame ≡ f
+    pub isRawOf : raw ≡ rawOf f (part p (end - p) image)
     pub on : Passing S G image start end all (p + f .size) (S .last (f .code))
     pub pastOn : on .past ≡ was .past ++ (raw ∷ [])
     pub todoOn : on .todo ≡ todo
@@ -102,6 +118,7 @@ module _ {S : Shape} {G : Grammar} (L : Laws S G) (image : List ℕ) (start end 
       let read : next S shut (part p (end - p) image) ≡ Framed (r .frame) = rw (room, fs .0) (raw-reads L r (flat rs ++ w .rest) (fs .1)) in
       let same : r .frame ≡ f = cc in
       let size : length (r .bytes) ≡ f .size = raw-size (fs .1) ∙ ap (λ (g : Frame). g .size) same in
+      let bytes : r .bytes ≡ take (f .size) (part p (end - p) image) = sym (ap (take (f .size)) room ∙ take-at (r .bytes) (flat rs ++ w .rest) (f .size) size) in
       let flats : flat (w .past ++ (r ∷ [])) ≡ flat (w .past) ++ r .bytes = flat-snoc (w .past) r in
       let long : length (part p (end - p) image) ≡ length (r .bytes) + length (flat rs ++ w .rest) = ap length room ∙ length-append (r .bytes) (flat rs ++ w .rest) in
       record {
@@ -110,6 +127,7 @@ module _ {S : Shape} {G : Grammar} (L : Laws S G) (image : List ℕ) (start end 
         heads = e;
         isRaw = fs .1;
         frame = same;
+        isRawOf = ap₂ (λ (x : List ℕ) (y : Frame). record { bytes = x; frame = y }) bytes same;
         on =
             record {
               past = w .past ++ (r ∷ []);
@@ -151,3 +169,47 @@ module _ {S : Shape} {G : Grammar} (L : Laws S G) (image : List ℕ) (start end 
       let q′ : Ended ≡ Broken k = rw (w .ends shut) at q in
       let c : _≡_ {A = ℕ} 0 1 = cc in
       omega arith
+
+-- a pass over all entries, before the first of them
+pub record First (f : Format) (image : List ℕ) (start end : ℕ) (all : List Raw) : Type 0 where
+  pub pass : Passing (shape f) (grammar f) image start end all start false
+  pub past : pass .past ≡ []
+  pub todo : pass .todo ≡ all
+
+-- a walk that came to its end, as a pass begins it
+pub pass-first : (f : Format) (image : List ℕ) (start end : ℕ) → start ≤ end → IsDone (walked f image start end) → First f image start end (rawsIn (walked f image start end))
+unfolding pass-begins
+pass-first f image start end le d = go (walked f image start end) refl d
+  where
+    go : (w : Walked) → walked f image start end ≡ w → IsDone w → First f image start end (rawsIn w)
+    go (done rs q) e d =
+        let x = walk-decode (laws f) start (part start (end - start) image) rs q e in
+        record { pass = pass-begins (laws f) image start end rs (x .rest) (x .joined) (decoded-ends (laws f) x) (x .frames) le; past = refl; todo = refl }
+    go (stop k q) e d = absurd d
+
+pub pass-starts : (f : Format) (image : List ℕ) (start end : ℕ) → start ≤ end → IsDone (walked f image start end) →
+    Passing (shape f) (grammar f) image start end (rawsIn (walked f image start end)) start false
+pass-starts f image start end le d = pass-first f image start end le d .pass
+
+-- the entries before the place of a pass are those that it passed
+before-flat : {S : Shape} {G : Grammar} (L : Laws S G) (b : Bool) (past todo : List Raw) (s : ℕ) → Frames S G b (past ++ todo) → before (past ++ todo) s (s + length (flat past)) ≡ past
+unfolding before
+before-flat L b [] [] s fs = refl
+before-flat L b [] (r ∷ rs) s fs = rw (le-ltb s (s + 0) (omega arith))
+before-flat {S} L b (r ∷ past) todo s fs =
+    let size = raw-size (fs .1) in
+    let some = raw-some L r (fs .1) in
+    let here : s + length (r .bytes ++ flat past) ≡ s + r .frame .size + length (flat past) = omega (arith, length-append (r .bytes) (flat past)) in
+    rw (here, lt-ltb s (s + r .frame .size + length (flat past)) (omega arith))
+    (ap (λ (l : List Raw). r ∷ l) (before-flat L (S .last (r .frame .code)) past todo (s + r .frame .size) (fs .2)))
+
+pub before-past : (f : Format) (image : List ℕ) (start end p : ℕ) (shut : Bool) → start ≤ end → IsDone (walked f image start end) →
+    (w : Passing (shape f) (grammar f) image start end (rawsIn (walked f image start end)) p shut) → before (rawsIn (walked f image start end)) start p ≡ w .past
+before-past f image start end p shut le d w =
+    let all = rawsIn (walked f image start end) in
+    let fs : Frames (shape f) (grammar f) false all = frames-all (walked f image start end) refl d in
+    rw (w .place) (rw (w .joined) (before-flat (laws f) false (w .past) (w .todo) start (rw (w .joined) at fs)))
+  where
+    frames-all : (x : Walked) → walked f image start end ≡ x → IsDone x → Frames (shape f) (grammar f) false (rawsIn x)
+    frames-all (done rs q) e d = walk-decode (laws f) start (part start (end - start) image) rs q e .frames
+    frames-all (stop k q) e d = absurd d

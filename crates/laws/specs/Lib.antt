@@ -1,3 +1,4 @@
 pub mod Contents
 pub mod Grammar
 pub mod Marked
+pub mod Passes

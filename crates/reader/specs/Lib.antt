@@ -1,2 +1,3 @@
 pub mod Here
+pub mod Lies
 pub mod Walk

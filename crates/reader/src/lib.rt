@@ -1,12 +1,15 @@
 // The calls that read an image: check, entry n, the value of entry n, a Tiny string, and the walk.
 ghost use mathlib.Core.Path.{_≡_};
 ghost use Prim.Native.Nat.{ℕ, _+_, _-_, _≤_, _<_};
+ghost use mathlib.Core.List.{List};
 ghost use lib.ListN.{length};
-ghost use Rattle.layout.specs.Bytes.{part};
-ghost use Rattle.layout.specs.Editions.{shape};
-ghost use Rattle.layout.specs.Calls.{checkImage, nth, entriesOf, entryAt, valueAt, stringIn, poolString, stringAt, bytesAt, verdict};
-ghost use Rattle.accept.specs.Passes.{walked, IsDone, rawsIn};
+ghost use Rattle.layout.specs.Bytes.{if};
+ghost use Rattle.layout.specs.Editions.{shape, names};
+ghost use Rattle.layout.specs.Walk.{content};
+ghost use Rattle.layout.specs.Calls.{checkImage, keyPart, entryOf, nth, entriesOf, entryAt, valueAt, stringIn, poolString, stringAt, bytesAt, verdict};
+ghost use Rattle.laws.specs.Passes.{walked, IsDone, rawsIn};
 ghost use Rattle.reader.specs.Here.{hereAt};
+ghost use Rattle.reader.specs.Lies.{Lies, rawAt};
 ghost use Rattle.reader.specs.Walk.{stepWalk};
 use accept::Taken;
 use layout::Checked;
@@ -78,7 +81,10 @@ pub fn check_image(format: u32, edition: u32, image: &[u8]) -> Checked
 }
 
 // The part of a key in a record: without a key it has length 0 and stands at the value's place.
-fn key_part(format: Format, p: usize, f: Frame) -> Part {
+fn key_part(format: Format, p: usize, f: Frame) -> Part
+    requires { ⌜ (f .key ≤ f .val) × (p + f .val < 18446744073709551616) ⌝ }
+    ensures { λ r. ⌜ ((bs : List ℕ) → r ≡ keyPart (shape format .keyed) p (record { bytes = bs; frame = f })) ⌝ }
+{
     match format {
         Format::Fboss => part_at(p + f.val, 0),
         Format::Vpd => part_at(p + f.key, f.klen),
@@ -86,7 +92,11 @@ fn key_part(format: Format, p: usize, f: Frame) -> Part {
     }
 }
 
-fn reading_at(format: Format, edition: u32, image: &[u8], p: usize, f: Frame) -> Reading {
+// What the value of an entry means: plain bytes, where the edition does not name its code.
+fn reading_at(format: Format, edition: u32, image: &[u8], p: usize, f: Frame) -> Reading
+    requires { ⌜ Lies (now image) p f ⌝ }
+    ensures { λ r. ⌜ r ≡ if (names (shape format) edition (f .code)) (λ _. shape format .reading (f .code) (content (rawAt (now (image .entry)) p f) .value)) (λ _. Reading.Plain) ⌝ }
+{
     let code = f.code;
     if !frames::is_named(format, edition, code) {
         return Reading::Plain;
@@ -95,7 +105,10 @@ fn reading_at(format: Format, edition: u32, image: &[u8], p: usize, f: Frame) ->
 }
 
 // The record of the entry at p with this frame.
-fn entry_of(format: Format, edition: u32, image: &[u8], p: usize, f: Frame) -> Entry {
+fn entry_of(format: Format, edition: u32, image: &[u8], p: usize, f: Frame) -> Entry
+    requires { ⌜ Lies (now image) p f ⌝ }
+    ensures { λ r. ⌜ r ≡ entryOf (shape format) edition p (rawAt (now (image .entry)) p f) ⌝ }
+{
     let code = f.code;
     let key = key_part(format, p, f);
     let value = part_at(p + f.val, f.vlen);
@@ -179,7 +192,10 @@ pub fn entry_at(format: u32, edition: u32, image: &[u8], n: usize) -> Lookup
     let t = accept::take_image(format, edition, image);
     match t {
         Taken::Isnt(r) => Lookup::Missing(r),
-        Taken::Is(room) => nth_entry(room.format, edition, image, room.start, room.end, n),
+        Taken::Is(room) => {
+            let g = room.format;
+            nth_entry(g, edition, image, room.start, room.end, n)
+        }
     }
 }
 

@@ -11,26 +11,28 @@ use crate::generate::{kept, named};
 use crate::image::{seal, Entry, Format, Image, FBOSS_HEADER, FORMATS, LONGEST};
 use crate::plan;
 use crate::random::Random;
+use crate::{fboss, tiny, vpd};
 
 pub type Group = fn(&mut Comparison);
 
 /// All fixed cases, in groups that can be compared side by side.
-pub const GROUPS: [Group; 15] = [
-    both_sides_of_each_line,
-    reference_checks,
-    fboss_example,
-    vpd_example,
-    every_tag,
-    decisions_on_reading,
-    decisions_on_writing,
-    decisions_on_lengths,
-    every_format_and_edition,
-    every_length,
-    fboss_bytes,
-    vpd_bytes,
-    tiny_bytes,
-    values_of_edits,
-    codes_of_fields,
+pub const GROUPS: [(&str, Group); 16] = [
+    ("01, Both sides of each line", both_sides_of_each_line),
+    ("000, Checksum", reference_checks),
+    ("000, Example", fboss_example),
+    ("002, Encoding example", vpd_example),
+    ("every Tiny tag", every_tag),
+    ("decisions on reading", decisions_on_reading),
+    ("decisions on writing", decisions_on_writing),
+    ("decisions on lengths", decisions_on_lengths),
+    ("largest images", largest_images),
+    ("every format and edition", every_format_and_edition),
+    ("every length", every_length),
+    ("every byte of an FBOSS image", fboss_bytes),
+    ("every byte of a VPD image", vpd_bytes),
+    ("every byte of a Tiny image", tiny_bytes),
+    ("values of edits", values_of_edits),
+    ("codes of fields", codes_of_fields),
 ];
 
 const FBOSS: u32 = 1;
@@ -804,6 +806,26 @@ fn decisions_on_lengths(compare: &mut Comparison) {
         vpd(&twice, LONGEST, refused(8, 1), None);
     }
 
+    // The same lines in an edit, and a lent part whose length needs more than 16 bits.
+    let small = bytes("01 01 41 00 00");
+    for edition in [1, 2] {
+        compare.next_case();
+        let check = Call::check(VPD, edition, &small);
+        let mut edited = |length: usize, room, answer, out| {
+            let call = check.edit(0, &letters[..length], room);
+            compare.case("D9", &call, answer, out);
+        };
+        edited(65_529, LONGEST, given(LONGEST), Some(&full));
+        edited(65_529, LONGEST - 1, refused(12, 0), None);
+        edited(65_530, LONGEST, refused(12, 0), None);
+        edited(65_536, LONGEST, refused(12, 0), None);
+        edited(65_537, LONGEST, refused(12, 0), None);
+        for records in [65_535, 65_536, 65_537] {
+            let call = check.list(records * RECORD);
+            compare.case("D5", &call, given(1), None);
+        }
+    }
+
     let pool =
         |length: usize| Image::new(Format::Tiny, vec![Entry::new(1, vec![b'A'; length])]).bytes();
     let largest = pool(249);
@@ -848,6 +870,98 @@ fn decisions_on_lengths(compare: &mut Comparison) {
             None,
         );
     }
+}
+
+/// DECISIONS, Largest entry counts: images with as many entries as 65,536 bytes can hold, with one
+/// entry twice, and writes of as many fields.
+fn largest_images(compare: &mut Comparison) {
+    let mut random = Random::of_input(0, 0, 0);
+    let images = [
+        (
+            Format::Fboss,
+            fboss::filling(&mut random, LONGEST, 0),
+            32_762,
+            1,
+        ),
+        (Format::Vpd, vpd::shortest(LONGEST), 21_845, 1),
+        (
+            Format::Vpd,
+            vpd::filling(&mut random, LONGEST, 0),
+            11_605,
+            2,
+        ),
+        (Format::Tiny, tiny::shortest(&mut random), 125, 2),
+    ];
+    for (format, entries, count, newest) in images {
+        let image = Image::new(format, entries).bytes();
+        for edition in 1..=newest {
+            compare.next_case();
+            let check = Call::check(format.number(), edition, &image);
+            compare.case("largest", &check, given(count), None);
+            compare.case("largest", &check.list(count * RECORD), given(count), None);
+            compare.case(
+                "largest",
+                &check.list((count - 1) * RECORD),
+                refused(12, 0),
+                None,
+            );
+            for n in [0, count / 2, count - 1, count] {
+                let n = n as u64;
+                compare.call(&check.entry(n, RECORD));
+                compare.call(&check.value(n));
+                compare.call(&check.step(&walk_bytes(check.format, edition, n), RECORD));
+                compare.call(&check.edit(n, b"", LONGEST));
+            }
+        }
+    }
+
+    // The last of the keys becomes one of the others, of the same length: the one before it, one
+    // from the middle, and the first such key.
+    let entries = vpd::filling(&mut random, LONGEST, 0);
+    let last = entries.len() - 1;
+    for other in [last - 1, 8_000, 63 + 63 * 63] {
+        compare.next_case();
+        let mut entries = entries.clone();
+        entries[last].key = entries[other].key.clone();
+        let image = Image::new(Format::Vpd, entries).bytes();
+        let place = LONGEST as u64 - 7;
+        compare.case(
+            "a key twice",
+            &Call::check(VPD, 2, &image),
+            refused(8, place),
+            None,
+        );
+    }
+
+    for (count, room, answer) in [
+        (11_605, LONGEST, given(LONGEST)),
+        (11_605, LONGEST - 1, refused(12, 0)),
+        (11_606, LONGEST, refused(12, 0)),
+    ] {
+        compare.next_case();
+        let mut list = List::new();
+        for number in 0..count {
+            list.add(1, &vpd::numbered_key(number), &[]);
+        }
+        let fields = list.bytes();
+        let call = Call::write(VPD, 1, &fields, &list.values, room);
+        compare.case("as many keys", &call, answer, None);
+        list.add(1, &vpd::numbered_key(4_000), b"again");
+        let fields = list.bytes();
+        let call = Call::write(VPD, 1, &fields, &list.values, room);
+        compare.case("a key twice", &call, refused(8, count as u64), None);
+    }
+
+    // A field's number that needs more than 16 bits.
+    compare.next_case();
+    let mut list = List::new();
+    for number in 0..70_000 {
+        list.add(1, &vpd::numbered_key(number), &[]);
+    }
+    list.add(1, b"A", &[]);
+    let fields = list.bytes();
+    let call = Call::write(VPD, 2, &fields, &list.values, LONGEST);
+    compare.case("many fields", &call, refused(8, 70_000), None);
 }
 
 /// The three small images of the sweeps.

@@ -12,6 +12,8 @@ pub fn check16(bytes: &[u8]) -> u16 {
 /// The Tiny check: polynomial 07h, start 0 (01, Tiny version 2).
 pub fn check8(bytes: &[u8]) -> u8 {
     bytes.iter().fold(0, |check, &byte| {
-        (0..8).fold(check ^ byte, |check, _| (check << 1) ^ ((check >> 7) * 0x07))
+        (0..8).fold(check ^ byte, |check, _| {
+            (check << 1) ^ ((check >> 7) * 0x07)
+        })
     })
 }

@@ -1,7 +1,7 @@
 //! One call on the library and on the second reader, and the comparison of all that they leave.
 
 use crate::call::{count, refusal, told, Call, Kind, NAMES};
-use crate::crash;
+use crate::crash::{self, Input};
 use crate::lent::{filled, Layout, Lent};
 
 /// How long a record is, in bytes.
@@ -83,8 +83,7 @@ impl Tally {
 pub struct Comparison {
     layout: Layout,
     salt: u64,
-    /// The format of the input that is being compared, 0 for a fixed case, and its number.
-    input: (u32, u64),
+    input: Input,
     pub tally: Tally,
     /// The first difference, with the number of inputs up to it.
     pub difference: Option<(u64, String)>,
@@ -95,23 +94,35 @@ impl Comparison {
         Comparison {
             layout,
             salt: 0,
-            input: (0, 0),
+            input: Input::Case {
+                group: 0,
+                number: 0,
+            },
             tally: Tally::default(),
             difference: None,
         }
     }
 
     /// Starts the next input. How its parts are lent depends on this input alone.
-    pub fn next_input(&mut self, format: u32, input: u64) {
-        crash::now_at(format, input);
-        self.salt = input.wrapping_mul(4).wrapping_add(u64::from(format));
-        self.input = (format, input);
+    pub fn next_input(&mut self, input: Input) {
+        crash::now_at(input);
+        let (Input::Case { number, .. } | Input::Generated { number, .. }) = input;
+        self.salt = number;
+        self.input = input;
         self.tally.inputs += 1;
     }
 
-    /// Starts the next fixed case.
+    /// Starts a group of fixed cases.
+    pub fn start_group(&mut self, group: usize) {
+        self.input = Input::Case { group, number: 0 };
+    }
+
+    /// Starts the next fixed case of the group.
     pub fn next_case(&mut self) {
-        self.next_input(0, self.tally.inputs);
+        if let Input::Case { group, number } = self.input {
+            let number = number + 1;
+            self.next_input(Input::Case { group, number });
+        }
     }
 
     fn salt(&mut self) -> u8 {
@@ -199,12 +210,7 @@ impl Comparison {
         if self.difference.is_some() {
             return;
         }
-        let (format, input) = self.input;
-        let mut text = match format {
-            0 => format!("  fixed case {input} of its group\n"),
-            _ => format!("  input {input} of format {format}\n"),
-        };
-        text += &format!("  boardid_{}\n", call.name());
+        let mut text = format!("  {}\n  boardid_{}\n", self.input, call.name());
         for (name, number) in call.numbers() {
             text += &format!("  {name}: {number}\n");
         }

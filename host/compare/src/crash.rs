@@ -7,6 +7,17 @@ use std::sync::atomic::{AtomicU64, Ordering};
 use std::thread;
 use std::time::{Duration, Instant};
 
+use crate::cases::GROUPS;
+
+/// What is being compared.
+#[derive(Clone, Copy)]
+pub enum Input {
+    /// A fixed case of a group of `GROUPS`.
+    Case { group: usize, number: u64 },
+    /// A generated input of a format.
+    Generated { format: u32, number: u64 },
+}
+
 /// The inputs that the threads are at, as format and number in one word; 0 for none.
 static AT: [AtomicU64; 64] = [const { AtomicU64::new(0) }; 64];
 static SEED: AtomicU64 = AtomicU64::new(0);
@@ -36,9 +47,13 @@ pub fn this_is_thread(number: usize) {
     THREAD.set(number % AT.len());
 }
 
-/// Says that this thread is at an input: of a format, or of the fixed cases, which are format 0.
-pub fn now_at(format: u32, input: u64) {
-    AT[THREAD.get()].store(u64::from(format + 1) << 56 | input, Ordering::Relaxed);
+/// Says that this thread is at an input: a generated one, or a fixed case.
+pub fn now_at(input: Input) {
+    let (format, number) = match input {
+        Input::Case { group, number } => (0, (group as u64) << 40 | number),
+        Input::Generated { format, number } => (u64::from(format), number),
+    };
+    AT[THREAD.get()].store((format + 1) << 56 | number, Ordering::Relaxed);
 }
 
 /// Says that this thread is at no input.
@@ -57,7 +72,7 @@ pub fn watch(done: impl Fn() -> bool, limit: Duration) {
                 (*last, *since) = (at, Instant::now());
             } else if at != 0 && since.elapsed() > limit {
                 println!(
-                    "compare: no answer in {} seconds\n{}",
+                    "compare: no answer in {} seconds, at {}",
                     limit.as_secs(),
                     Again(at)
                 );
@@ -73,28 +88,49 @@ extern "C" fn crashed(number: i32) {
         length: 0,
     };
     let at = AT[THREAD.get()].load(Ordering::Relaxed);
-    let _ = writeln!(text, "compare: a crash, signal {number}\n{}", Again(at));
+    let _ = writeln!(text, "compare: a crash, signal {number}, at {}", Again(at));
     unsafe {
         write(1, text.bytes.as_ptr(), text.length);
         _exit(1)
     }
 }
 
-/// The command that makes an input again.
+/// An input as the threads' table has it, in words.
 struct Again(u64);
 
 impl fmt::Display for Again {
     fn fmt(&self, to: &mut fmt::Formatter) -> fmt::Result {
-        let seed = SEED.load(Ordering::Relaxed);
-        let input = self.0 & ((1 << 56) - 1);
-        match self.0 >> 56 {
-            0 => write!(to, "at no input"),
-            1 => write!(to, "at fixed case {input}: compare --inputs 0"),
-            format => {
-                let format = format - 1;
+        let number = self.0 & ((1 << 56) - 1);
+        let input = match self.0 >> 56 {
+            0 => return write!(to, "no input"),
+            1 => Input::Case {
+                group: (number >> 40) as usize,
+                number: number & ((1 << 40) - 1),
+            },
+            format => Input::Generated {
+                format: format as u32 - 1,
+                number,
+            },
+        };
+        input.fmt(to)
+    }
+}
+
+impl fmt::Display for Input {
+    fn fmt(&self, to: &mut fmt::Formatter) -> fmt::Result {
+        match *self {
+            Input::Case { group, number } => {
+                let (name, _) = GROUPS[group];
                 write!(
                     to,
-                    "again: compare --seed {seed} --format {format} --first {input} --inputs 1"
+                    "fixed case {number} of '{name}' (again: compare --inputs 0)"
+                )
+            }
+            Input::Generated { format, number } => {
+                let seed = SEED.load(Ordering::Relaxed);
+                write!(
+                    to,
+                    "input {number} of format {format} (again: compare --seed {seed} --format {format} --first {number} --inputs 1)"
                 )
             }
         }

@@ -64,9 +64,13 @@ pub fn list(random: &mut Random, format: Format, edition: u32) -> List {
         codes.sort_by_key(|&code| code == POOL);
     }
     let careful = random.once_in(2);
+    let mut last_key = Vec::new();
     for code in codes {
         let key = match format {
             Format::Vpd if !careful && random.once_in(12) => vpd::broken_key(random),
+            Format::Vpd if !last_key.is_empty() && random.once_in(4) => {
+                vpd::similar_key(random, &last_key)
+            }
             Format::Vpd => vpd::kept_key(random, code),
             _ => Vec::new(),
         };
@@ -79,6 +83,7 @@ pub fn list(random: &mut Random, format: Format, edition: u32) -> List {
             list.values.extend(random.bytes(gap));
         }
         list.add(u32::from(code), &key, &value);
+        last_key = key;
     }
     if format != Format::Vpd && random.once_in(2) {
         // Outside VPD a key is not looked at, wherever it lies.

@@ -29,7 +29,9 @@ use std::sync::Mutex;
 use std::thread;
 use std::time::{Duration, Instant};
 
+use cases::GROUPS;
 use comparison::{Comparison, Tally};
+use crash::Input;
 use image::{Format, FORMATS};
 use lent::Layout;
 use random::Random;
@@ -49,7 +51,7 @@ struct Options {
 /// What a thread does at a time: one group of fixed cases, or some inputs of one format.
 #[derive(Clone, Copy)]
 enum Task {
-    Fixed(cases::Group),
+    Fixed { group: usize },
     Generated { format: Format, from: u64, to: u64 },
 }
 
@@ -149,7 +151,7 @@ fn options() -> Result<Options, String> {
 fn tasks(options: &Options) -> Vec<Task> {
     let mut tasks = Vec::new();
     if options.first.is_none() {
-        tasks.extend(cases::GROUPS.map(Task::Fixed));
+        tasks.extend((0..GROUPS.len()).map(|group| Task::Fixed { group }));
     }
     let first = options.first.unwrap_or(0);
     let end = first + options.inputs;
@@ -196,11 +198,19 @@ fn run(options: &Options) -> Vec<Outcome> {
 fn perform(options: &Options, task: usize, what: Task) -> Outcome {
     let mut compare = Comparison::new(options.layout);
     match what {
-        Task::Fixed(group) => group(&mut compare),
+        Task::Fixed { group } => {
+            compare.start_group(group);
+            let (_, cases) = GROUPS[group];
+            cases(&mut compare);
+        }
         Task::Generated { format, from, to } => {
-            for input in from..to {
-                let mut random = Random::of_input(options.seed, format.number(), input);
-                compare.next_input(format.number(), input);
+            for number in from..to {
+                let mut random = Random::of_input(options.seed, format.number(), number);
+                let input = Input::Generated {
+                    format: format.number(),
+                    number,
+                };
+                compare.next_input(input);
                 generated(&mut compare, &mut random, format);
             }
         }

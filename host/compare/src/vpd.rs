@@ -26,6 +26,23 @@ pub fn kept_key(random: &mut Random, code: u8) -> Vec<u8> {
     }
 }
 
+/// A key of type 01h that differs from another in little: one byte, its case, its end or the order.
+pub fn similar_key(random: &mut Random, key: &[u8]) -> Vec<u8> {
+    let mut similar = key.to_vec();
+    let place = random.below(similar.len());
+    match random.below(6) {
+        0 => similar.push(random.pick(KEY_BYTES)),
+        1 if similar.len() > 1 => {
+            similar.pop();
+        }
+        2 if similar[place].is_ascii_alphabetic() => similar[place] ^= 0x20,
+        3 => similar.reverse(),
+        4 => similar.extend_from_slice(key),
+        _ => similar[place] = random.pick(KEY_BYTES),
+    }
+    similar
+}
+
 /// A key that breaks the rule of type 01h.
 pub fn broken_key(random: &mut Random) -> Vec<u8> {
     let mut key = kept_key(random, VPD_STRING);
@@ -61,9 +78,12 @@ pub fn broken(random: &mut Random) -> Vec<u8> {
 pub fn entries(random: &mut Random) -> Vec<Entry> {
     let count = random.pick(&[0, 1, 1, 2, 3, 5, 8, 13, 30]);
     let mut keys = HashSet::new();
-    let mut entries = Vec::new();
+    let mut entries: Vec<Entry> = Vec::new();
     for _ in 0..count {
-        let key = kept_key(random, VPD_STRING);
+        let key = match entries.last() {
+            Some(last) if random.once_in(3) => similar_key(random, &last.key),
+            _ => kept_key(random, VPD_STRING),
+        };
         if keys.insert(key.clone()) {
             let value = kept(random, VPD_STRING);
             entries.push(Entry::with_key(VPD_STRING, key, value));

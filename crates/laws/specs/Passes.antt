@@ -1,0 +1,32 @@
+-- The walk that a pass over an image goes by, and the entries on its way.
+-- Assumes nothing.
+use Prim.Native.Nat.{ℕ, zero, suc, _+_, _-_}
+use mathlib.Core.List.{List, [], _∷_, map}
+use mathlib.Core.Bool.{false}
+use lib.Dec.{ltb}
+use Rattle.layout.specs.declared.Format.{Format}
+use Rattle.layout.specs.Bytes.{if, part}
+use Rattle.layout.specs.Shape.{Label}
+use Rattle.layout.specs.Editions.{shape}
+use Rattle.layout.specs.Walk.{Raw, content, labelOf, Walked, done, stop, walk}
+
+-- the walk over the room from start to end
+abbrev pub walked : Format → List ℕ → ℕ → ℕ → Walked
+walked f image start end = walk (shape f) false start (part start (end - start) image)
+
+-- the walk came to its end
+abbrev pub IsDone : Walked → Type 0
+IsDone (done rs p) = Unit {0}
+IsDone (stop k p) = ⊥
+
+abbrev pub rawsIn : Walked → List Raw
+rawsIn (done rs p) = rs
+rawsIn (stop k p) = []
+
+abbrev pub labels : List Raw → List Label
+labels rs = map (λ r. labelOf (content r)) rs
+
+-- the entries that stand before p, where the first stands at s
+unfoldable pub before : List Raw → ℕ → ℕ → List Raw
+before [] s p = []
+before (r ∷ rs) s p = if (ltb s p) (λ _. r ∷ before rs (s + r .frame .size) p) (λ _. [])

@@ -1,0 +1,4 @@
+pub mod Finding
+pub mod Lying
+pub mod Rooms
+pub mod Strings

@@ -1,0 +1,118 @@
+#!/usr/bin/env bash
+# Runs the examples on copies of the samples and prints each command with what it writes and its exit status; run.sh compares that with examples.out.
+# Usage: examples.sh FOLDER, which has the programs list and edit, and list-1 and edit-1 compiled with the header of edition 1.
+set -uo pipefail
+programs=$(cd "$1" && pwd)
+samples=$(cd "$(dirname "$0")/../../samples" && pwd)
+room=$(mktemp -d)
+trap 'rm -rf "$room"' EXIT
+cd "$room" || exit 1
+cp "$samples"/*.vpd "$samples"/*.bin .
+export LC_ALL=C
+
+run() {
+    echo "\$ $*"
+    (PATH="$programs:$PATH" && "$@" 2>&1)
+    local status=$?
+    [ $status -eq 0 ] || echo "exit status $status"
+}
+
+bytes() {
+    od -An -v -tx1 "$1"
+}
+
+echo '# list'
+run list fboss fboss.bin
+run list vpd sku.vpd
+run list vpd board.vpd
+run list tiny tiny.bin
+run list-1 fboss fboss.bin
+run list-1 vpd board.vpd
+run list-1 tiny tiny.bin
+
+echo '# list: what the samples do not show'
+printf '\xFB\xFB\x05\xFF\x01\x03"\\~\x08\x01\xFF\x09\x01\x00\x0A\x01\x09\x0B\x00\x63\x03\x00\x41\xFF\x15\x00\xFA\x02\x16\xAC' >unnamed.fboss
+run list fboss unnamed.fboss
+printf '\x01\x01A\x00\x01\x01B\x03\x41\x0A\x42\x01\x02_9\x02"x\xFE\x02\x1B"\x041234\x00' >bytes.vpd
+run list vpd bytes.vpd
+printf '\x56\x02\x04\x6F' >empty.tiny
+run list tiny empty.tiny
+printf '\x56\x02\x1C\x10\x07\x11\xF8\x23\xAA\xBB\x61\x00\x09\x63\x63\x00\xFF\x01\x08\x41\x07\xA2\xDC\x41\x42\x43\x44\x8F' >odd.tiny
+run list tiny odd.tiny
+printf '\x56\x02\x06\x01\x00\xF5' >no_strings.tiny
+run list tiny no_strings.tiny
+
+echo '# list: refusals and failures'
+run list vpd tiny.bin
+printf '\x01\x01A\x00\x01\x01A\x00\x00' >twice.vpd
+run list vpd twice.vpd
+head -c 65537 /dev/zero >long.vpd
+run list vpd long.vpd
+head -c 65536 /dev/zero >longest.vpd
+run list vpd longest.vpd
+run list vpd missing.vpd
+run list vpd .
+run list onie sku.vpd
+run list vpd
+echo '$ list vpd sku.vpd >/dev/full'
+{ "$programs/list" vpd sku.vpd >/dev/full; } 2>&1
+echo "exit status $?"
+
+echo '# edit'
+chmod 640 sku.vpd
+run edit vpd sku.vpd 0 B
+run bytes sku.vpd
+run stat -c '%a' sku.vpd
+run edit vpd sku.vpd 0 -3
+run list vpd sku.vpd
+run edit vpd sku.vpd 0 LONGER
+run edit -s 16 vpd sku.vpd 0 LONGER
+run bytes sku.vpd
+run edit vpd sku.vpd 0 ''
+run list vpd sku.vpd
+run edit -x vpd board.vpd 3 2a:02:03:b3:d5:7D
+run edit -x vpd board.vpd 0 00000080
+run edit vpd board.vpd 1 'a longer text than before'
+run list vpd board.vpd
+run edit fboss fboss.bin 0 SECOND_SQUEEZE
+run edit -x fboss fboss.bin 8 '0A'
+run edit -x fboss fboss.bin 16 '02 1A 2B 3C 4D 5E 00 10'
+run list fboss fboss.bin
+run edit -x tiny tiny.bin 1 0f
+run edit -x -s 80 tiny tiny.bin 7 53:b9:50:b8:52:b7:51:b6
+run list tiny tiny.bin
+
+echo '# edit: a symbolic link stays one'
+ln -s board.vpd link.vpd
+run edit vpd link.vpd 1 linked
+run readlink link.vpd
+run list vpd board.vpd
+
+echo '# edit: refusals and failures; nothing is changed and nothing left behind'
+cp -p board.vpd before.vpd
+before=$(echo *)
+run edit-1 -x vpd board.vpd 0 00000081
+run edit -x vpd board.vpd 0 000081
+run edit vpd board.vpd 4 x
+run edit vpd board.vpd 18446744073709551615 x
+run edit fboss fboss.bin 12 20231301
+run edit fboss board.vpd 0 x
+run edit vpd long.vpd 0 x
+run edit vpd missing.vpd 0 x
+run edit vpd . 0 x
+run edit vpd board.vpd 18446744073709551616 x
+run edit vpd board.vpd one x
+run edit vpd board.vpd 1
+run edit -x vpd board.vpd 1 0g
+run edit -x vpd board.vpd 1 012
+run edit -x vpd board.vpd 1 01:
+run edit -s 65537 vpd board.vpd 1 x
+run cmp board.vpd before.vpd
+[ "$(echo *)" = "$before" ] && echo 'the folder is as before'
+
+echo '# edit by edition 1: what it does not name stays'
+run edit-1 vpd board.vpd 1 by_edition_1
+run list vpd board.vpd
+run edit-1 tiny tiny.bin 0 X
+run edit-1 -x tiny tiny.bin 0 02
+run list tiny tiny.bin

@@ -1,0 +1,15 @@
+/*
+ * One function of a program that has two headers: compiled once with each edition's header, under
+ * the name that FUNCTION is defined as. It gives the kind of the first entry of a VPD image.
+ */
+#include <boardid.h>
+
+uint32_t FUNCTION(const uint8_t *image, size_t length);
+
+uint32_t FUNCTION(const uint8_t *image, size_t length)
+{
+    uint8_t record[BOARDID_RECORD_SIZE] = {0};
+
+    boardid_entry_at(BOARDID_FORMAT_VPD, image, length, 0, record, sizeof record);
+    return boardid_record_at(record, 0).kind;
+}

@@ -1,0 +1,311 @@
+/*
+ * An old tool and a new one on the same images. This program is compiled once with each edition's
+ * header, and each is linked with the one library. The images have, in each format, entries that
+ * edition 2 names and edition 1 does not, and entries that neither names.
+ *
+ *     old_header list FOLDER        expects this edition's kinds, and writes what every edition must
+ *                                   list alike (codes, keys, values) to FOLDER/edition-N.list
+ *     old_header edit FOLDER        edits each entry that this edition names, each into a file
+ *     old_header read FOLDER N      reads what edition N edited, and expects that only that one
+ *                                   value is changed
+ */
+#define _DEFAULT_SOURCE
+
+#include <boardid.h>
+
+#include "expect.h"
+
+enum { MOST_ENTRIES = 12 };
+
+/* One entry: its code, the first edition that names it (0: none does), and a value to edit it to. */
+struct entry_case {
+    uint32_t code;
+    uint32_t since;
+    const char *value;
+};
+
+struct image_case {
+    const char *name;
+    uint32_t format;
+    const char *image;
+    uint32_t count;
+    struct entry_case entries[MOST_ENTRIES];
+};
+
+static const struct image_case images[] = {
+    {"fboss",
+     BOARDID_FORMAT_FBOSS,
+     "FB FB 05 FF 01 07 4C 45 41 46 2D 33 32 08 01 01 09 01 02 11 08 02 1A 2B 3C 4D 5E 00 10 "
+     "0A 01 03 12 08 02 1A 2B 3C 4D 6E 00 01 63 03 00 FF 7F 0B 07 53 4E 2D 30 30 30 31 "
+     "13 08 02 1A 2B 3C 4D 7E 01 00 14 08 02 1A 2B 3C 4D 8E FF FF 0D 08 32 30 32 34 30 31 33 31 "
+     "15 00 FA 02 13 68 FF FF FF",
+     12,
+     {{1, 1, "53 50 49 4E 45 2D 36 34"},
+      {8, 1, "FF"},
+      {9, 1, "00"},
+      {17, 2, "02 1A 2B 00 00 00 00 00"},
+      {10, 1, "63"},
+      {18, 2, "FF FF FF FF FF FF FF FF"},
+      {99, 0, "00"},
+      {11, 1, ""},
+      {19, 2, "00 00 00 00 00 00 00 00"},
+      {20, 2, "02 1A 2B 3C 4D 8E 00 02"},
+      {13, 1, "32 30 32 34 30 32 30 31"},
+      {21, 0, ""}}},
+    {"vpd",
+     BOARDID_FORMAT_VPD,
+     "01 03 53 4B 55 02 41 37 FE 08 67 56 70 64 49 6E 66 6F 80 04 2A 00 00 00 "
+     "01 80 06 73 65 72 69 61 6C 80 80 03 31 32 33 01 03 6D 61 63 06 02 1A 2B 3C 4D 5E FF AA 01",
+     4,
+     {{0x01, 1, "42"},
+      {0xFE, 2, "00 00 00 2A"},
+      {0x01, 1, "39 38 37 36 35 34 33 32 31"},
+      {0x01, 1, ""}}},
+    {"tiny",
+     BOARDID_FORMAT_TINY,
+     "56 02 3E 80 00 01 80 05 41 31 2A 00 10 00 23 AA BB 11 05 81 01 00 63 63 42 32 0F 27 "
+     "61 00 01 02 0A 2D 2D 62 01 00 99 00 58 59 60 02 1A 2B 3C 4D 5E 02 03 01 02 03 "
+     "01 05 53 B1 50 4E B2 0C 00 11",
+     10,
+     {{0x80, 2, "01 00 00 00 00 FF 00 00"},
+      {0x10, 1, "01"},
+      {0x23, 0, "00 00"},
+      {0x11, 1, "0F"},
+      {0x81, 2, "00 00 99 63 20 20 0E 27"},
+      {0x61, 1, "01 01 63 63 41 42"},
+      {0x62, 1, "07 07 80 00 00 00"},
+      {0x60, 1, "00 00 00 00 00 01"},
+      {0x02, 0, "01"},
+      {0x01, 1, "53 32 B2 50 4E 33 B3 C1"}}},
+};
+
+enum { IMAGES = sizeof images / sizeof images[0] };
+
+/* Whether an edition names an entry of the cases. */
+static int names(uint32_t edition, const struct entry_case *entry)
+{
+    return entry->since != 0 && entry->since <= edition;
+}
+
+/* The list of an image by this edition. */
+struct list {
+    uint32_t count;
+    uint8_t records[MOST_ENTRIES * BOARDID_RECORD_SIZE];
+};
+
+static struct list list_of(const struct image_case *c, struct lent image)
+{
+    struct list list;
+    uint64_t answer;
+
+    memset(&list, 0, sizeof list);
+    answer = boardid_list_entries(c->format, image.bytes, image.length, list.records,
+                                  sizeof list.records);
+    expect_number(boardid_answer_number(answer), 0, c->name);
+    list.count = boardid_answer_count(answer);
+    return list;
+}
+
+/* Whether a part of one image has the bytes of a part of another. */
+static int same_part(struct lent a, uint32_t a_place, uint32_t a_length, struct lent b,
+                     uint32_t b_place, uint32_t b_length)
+{
+    return a_length == b_length && memcmp(a.bytes + a_place, b.bytes + b_place, a_length) == 0;
+}
+
+/* The path of a file in a folder. */
+static const char *path_in(const char *folder, const char *name, uint32_t number, const char *kind)
+{
+    static char path[4096];
+    int length = snprintf(path, sizeof path, "%s/%s-%lu.%s", folder, name, (unsigned long)number,
+                          kind);
+
+    if (length < 0 || (size_t)length >= sizeof path) {
+        printf("a path that is too long\n");
+        exit(1);
+    }
+    return path;
+}
+
+static void write_file(const char *path, const uint8_t *bytes, size_t length)
+{
+    FILE *file = fopen(path, "wb");
+
+    if (file == NULL || fwrite(bytes, 1, length, file) != length || fclose(file) != 0) {
+        perror(path);
+        exit(1);
+    }
+}
+
+static struct lent read_file(const char *path)
+{
+    static uint8_t bytes[4096];
+    FILE *file = fopen(path, "rb");
+    size_t length;
+
+    if (file == NULL) {
+        perror(path);
+        exit(1);
+    }
+    length = fread(bytes, 1, sizeof bytes, file);
+    fclose(file);
+    return lend_copy(bytes, length);
+}
+
+/* Writes bytes in hexadecimal to a file. */
+static void print_bytes(FILE *file, const uint8_t *bytes, uint32_t length)
+{
+    uint32_t i;
+
+    fprintf(file, " [");
+    for (i = 0; i < length; i++) {
+        fprintf(file, "%02X", bytes[i]);
+    }
+    fprintf(file, "]");
+}
+
+/* Lists every image: the kinds are this edition's, codes, keys and values every edition's. */
+static void list_all(const char *folder)
+{
+    FILE *file = fopen(path_in(folder, "edition", BOARDID_EDITION, "list"), "w");
+    uint32_t i, n, w;
+
+    if (file == NULL) {
+        perror(folder);
+        exit(1);
+    }
+    for (i = 0; i < IMAGES; i++) {
+        const struct image_case *c = &images[i];
+        struct lent image = lend_hex(c->image);
+        struct list list = list_of(c, image);
+
+        expect_number(list.count, c->count, c->name);
+        for (n = 0; n < list.count; n++) {
+            const struct entry_case *entry = &c->entries[n];
+            struct boardid_record record = boardid_record_at(list.records, n);
+
+            expect_number(record.code, entry->code, c->name);
+            if (names(BOARDID_EDITION, entry)) {
+                expect_number(record.kind, BOARDID_KIND(c->format, entry->code), c->name);
+            } else {
+                expect_number(record.kind, 0, c->name);
+                expect_number(record.reading, BOARDID_READING_PLAIN_BYTES, c->name);
+                for (w = 0; w < 7; w++) {
+                    expect_number(record.carried[w], 0, c->name);
+                }
+            }
+            fprintf(file, "%s %lu %lu", c->name, (unsigned long)n, (unsigned long)record.code);
+            print_bytes(file, image.bytes + record.key_place, record.key_length);
+            print_bytes(file, image.bytes + record.value_place, record.value_length);
+            fprintf(file, "\n");
+        }
+        give_back(image);
+    }
+    fclose(file);
+}
+
+/* Edits each entry that this edition names; expects 14 and no change for every other. */
+static void edit_all(const char *folder)
+{
+    uint32_t i, n;
+
+    for (i = 0; i < IMAGES; i++) {
+        const struct image_case *c = &images[i];
+        struct lent image = lend_hex(c->image);
+        struct list list = list_of(c, image);
+
+        for (n = 0; n < c->count; n++) {
+            struct lent value = lend_hex(c->entries[n].value), out = lend(image.length + 20);
+            uint64_t answer = boardid_edit_entry(c->format, image.bytes, image.length, n,
+                                                 value.bytes, value.length, out.bytes, out.length);
+
+            if (names(BOARDID_EDITION, &c->entries[n])) {
+                expect_number(boardid_answer_number(answer), 0, c->name);
+                write_file(path_in(folder, c->name, n, "whole"), out.bytes, out.length);
+                write_file(path_in(folder, c->name, n, "image"), out.bytes,
+                           boardid_answer_count(answer));
+            } else {
+                expect_number(boardid_answer_number(answer), BOARDID_REFUSED_NOT_NAMED, c->name);
+                expect_number(boardid_answer_place(answer),
+                              boardid_record_at(list.records, n).place, c->name);
+                expect(all_are(out, 0, 0x5A), c->name);
+            }
+            give_back(out);
+            give_back(value);
+        }
+        give_back(image);
+    }
+}
+
+/* Expects that an edited image is listed as the old one, with the value of entry n replaced. */
+static void expect_one_change(const struct image_case *c, struct lent image, struct lent edited,
+                              uint32_t n, struct lent value)
+{
+    struct list old = list_of(c, image), now = list_of(c, edited);
+    uint32_t k;
+
+    expect_number(now.count, c->count, c->name);
+    for (k = 0; k < c->count && k < now.count; k++) {
+        struct boardid_record a = boardid_record_at(old.records, k);
+        struct boardid_record b = boardid_record_at(now.records, k);
+
+        expect_number(b.code, a.code, c->name);
+        expect_number(b.kind, a.kind, c->name);
+        expect_number(b.reading, a.reading, c->name);
+        expect(same_part(image, a.key_place, a.key_length, edited, b.key_place, b.key_length),
+               c->name);
+        if (k == n) {
+            expect(same_part(value, 0, (uint32_t)value.length, edited, b.value_place,
+                             b.value_length),
+                   c->name);
+        } else {
+            /* The whole entry is the same, from its first byte to the last of its value. */
+            expect(same_part(image, a.place, a.value_place + a.value_length - a.place, edited,
+                             b.place, b.value_place + b.value_length - b.place),
+                   c->name);
+            expect(memcmp(a.carried, b.carried, sizeof a.carried) == 0, c->name);
+        }
+    }
+}
+
+/* Reads what another edition edited. */
+static void read_all(const char *folder, uint32_t editor)
+{
+    uint32_t i, n;
+
+    for (i = 0; i < IMAGES; i++) {
+        const struct image_case *c = &images[i];
+        struct lent image = lend_hex(c->image);
+
+        for (n = 0; n < c->count; n++) {
+            if (names(editor, &c->entries[n])) {
+                struct lent value = lend_hex(c->entries[n].value);
+                struct lent whole = read_file(path_in(folder, c->name, n, "whole"));
+                struct lent part = read_file(path_in(folder, c->name, n, "image"));
+
+                expect_one_change(c, image, whole, n, value);
+                expect_one_change(c, image, part, n, value);
+                expect(all_are(whole, part.length, 0xFF), c->name);
+                give_back(part);
+                give_back(whole);
+                give_back(value);
+            }
+        }
+        give_back(image);
+    }
+}
+
+int main(int argc, char **argv)
+{
+    if (argc == 3 && strcmp(argv[1], "list") == 0) {
+        list_all(argv[2]);
+    } else if (argc == 3 && strcmp(argv[1], "edit") == 0) {
+        edit_all(argv[2]);
+    } else if (argc == 4 && strcmp(argv[1], "read") == 0) {
+        read_all(argv[2], (uint32_t)strtoul(argv[3], NULL, 10));
+    } else {
+        fprintf(stderr, "usage: old_header list|edit FOLDER, or old_header read FOLDER EDITION\n");
+        return 2;
+    }
+    return expectations_met("old_header");
+}

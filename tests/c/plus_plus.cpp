@@ -1,0 +1,63 @@
+// Every function of a header used from C++. Compiled once with each edition's header.
+#include <boardid.h>
+
+#include <cstdio>
+#include <cstring>
+
+int main()
+{
+    static const uint8_t values[] = {'S', 'K', 'U', 'A', '7'};
+    static const uint8_t wanted[] = {1, 3, 'S', 'K', 'U', 1, 'B', 0, 0xFF};
+    static const uint8_t text[] = {'B'};
+    uint8_t field[BOARDID_FIELD_SIZE], walk[BOARDID_WALK_SIZE], record[BOARDID_RECORD_SIZE];
+    uint8_t image[9], edited[9];
+    const boardid_field sku = {BOARDID_VPD_STRING, 0, 3, 3, 2};
+    bool good = true;
+
+    boardid_field_set(field, 0, sku);
+    good = good && boardid_field_at(field, 0).value_place == 3;
+    uint64_t answer = boardid_write_image(BOARDID_FORMAT_VPD, field, sizeof field, values,
+                                          sizeof values, image, sizeof image);
+    good = good && boardid_answer_count(answer) == sizeof image;
+    good = good && boardid_answer_count(boardid_check_image(BOARDID_FORMAT_VPD, image,
+                                                            sizeof image)) == 1;
+    good = good && boardid_answer_count(boardid_list_entries(BOARDID_FORMAT_VPD, image,
+                                                             sizeof image, record,
+                                                             sizeof record)) == 1;
+    const boardid_record entry = boardid_record_at(record, 0);
+    good = good && entry.kind == BOARDID_KIND(BOARDID_FORMAT_VPD, BOARDID_VPD_STRING);
+    good = good && entry.value_place == 6 && entry.value_length == 2;
+    good = good && boardid_answer_count(boardid_entry_at(BOARDID_FORMAT_VPD, image, sizeof image, 0,
+                                                         record, sizeof record)) == 1;
+    const boardid_part part =
+        boardid_answer_part(boardid_value_at(BOARDID_FORMAT_VPD, image, sizeof image, 0));
+    good = good && part.place == 6 && part.length == 2;
+    good = good && boardid_answer_number(boardid_string_at(BOARDID_FORMAT_VPD, image, sizeof image,
+                                                           0)) == BOARDID_REFUSED_FORMAT;
+    boardid_walk_set(walk, BOARDID_FORMAT_VPD, 0);
+    answer = boardid_walk_step(walk, sizeof walk, image, sizeof image, record, sizeof record);
+    good = good && boardid_answer_count(answer) == 1 && boardid_walk_entry(walk) == 1;
+    good = good && boardid_walk_format(walk) == BOARDID_FORMAT_VPD;
+    good = good && boardid_walk_edition(walk) == BOARDID_EDITION;
+    answer = boardid_walk_step(walk, sizeof walk, image, sizeof image, record, sizeof record);
+    good = good && boardid_answer_number(answer) == BOARDID_REFUSED_NOT_THERE;
+    good = good && boardid_answer_place(answer) == 0;
+    answer = boardid_edit_entry(BOARDID_FORMAT_VPD, image, sizeof image, 0, text, sizeof text,
+                                edited, sizeof edited);
+    good = good && boardid_answer_count(answer) == 8;
+    good = good && std::memcmp(edited, wanted, sizeof edited) == 0;
+
+    good = good && boardid_record_number(&entry) == 0;
+    good = good && boardid_record_address_base(&entry) == 0;
+    good = good && boardid_record_address_count(&entry) == 0;
+    good = good && boardid_record_string_number(&entry) == 0;
+    good = good && boardid_record_test_flags(&entry) == 0;
+    good = good && boardid_record_tests_passed(&entry) == 0;
+    const boardid_identity identity = boardid_record_identity(&entry);
+    good = good && identity.serial_string == 0 && identity.free_bytes[1] == 0;
+#if BOARDID_EDITION >= 2
+    good = good && boardid_record_batch(&entry) == 0;
+#endif
+    std::printf("plus_plus: %s\n", good ? boardid_refusal_text(BOARDID_NOT_REFUSED) : "wrong");
+    return good ? 0 : 1;
+}

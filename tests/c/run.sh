@@ -1,0 +1,270 @@
+#!/usr/bin/env bash
+# Builds and runs every C test against one library, with each compiler that is here, plain and under the address and undefined-behaviour sanitizers.
+#   LIB        the library (default: target/staticlib/libboardid.a)
+#   LDLIBS     what the library needs to link, if anything
+#   COMPILERS  the C compilers (default: gcc clang); the C++ compiler of each is used too
+# The last line is 'c tests: N passed, M failed'; the exit status is 0 only where all passed.
+set -uo pipefail
+cd "$(dirname "$0")/../.." || exit 1
+root=$PWD
+lib=${LIB:-target/staticlib/libboardid.a}
+read -r -a more <<<"${LDLIBS:-}"
+room=$(mktemp -d)
+trap 'rm -rf "$room"' EXIT
+passed=0 failed=0
+editions=(1 2)
+newest=2
+warnings=(-Wall -Wextra -Wpedantic -Wconversion -Wshadow -Werror)
+
+# try NAME COMMAND..: one test, which passes where the command's exit status is 0.
+try() {
+    local name=$1
+    shift
+    if "$@" >"$room/output" 2>&1; then
+        passed=$((passed + 1))
+    else
+        failed=$((failed + 1))
+        echo "FAILED: $name"
+        head -n 40 "$room/output" | sed 's/^/    /'
+    fi
+}
+
+# refuses COMMAND..: passes where the command's exit status is not 0.
+refuses() {
+    ! "$@"
+}
+
+# The last line; its status is the script's.
+finish() {
+    echo "c tests: $passed passed, $failed failed"
+    [ "$failed" -eq 0 ] && [ "$passed" -gt 0 ]
+}
+
+if [ ! -f "$lib" ]; then
+    echo "there is no library $lib: build it with make, or say where it is with LIB="
+    failed=1
+    finish
+    exit
+fi
+lib=$(realpath "$lib")
+export UBSAN_OPTIONS=print_stacktrace=1
+
+# The C++ compiler that goes with a C compiler.
+plus_plus_of() {
+    case $1 in
+    *clang*) echo "${1/clang/clang++}" ;;
+    *) echo "${1/gcc/g++}" ;;
+    esac
+}
+
+# program OUT EDITION SOURCE: compiles a C program with an edition's header, and links it with the library.
+program() {
+    "$cc" -std=c99 "${warnings[@]}" "${flags[@]}" "-Iinclude/edition-$2" -o "$1" "$3" "$lib" "${more[@]}"
+}
+
+# The old header and the new one: programs old_header-1 and old_header-2 in a folder, on the same files.
+old_and_new() {
+    local folder=$1 editor reader
+    for editor in "${editions[@]}"; do
+        mkdir -p "$folder/files/$editor" || return 1
+        "$folder/old_header-$editor" list "$folder/files" || return 1
+        "$folder/old_header-$editor" edit "$folder/files/$editor" || return 1
+    done
+    for editor in "${editions[@]}"; do
+        cmp "$folder/files/edition-1.list" "$folder/files/edition-$editor.list" || return 1
+        for reader in "${editions[@]}"; do
+            "$folder/old_header-$reader" read "$folder/files/$editor" "$editor" || return 1
+        done
+    done
+}
+
+# One program of two parts, each compiled with another edition's header.
+two_headers() {
+    local folder=$1 edition
+    for edition in 1 2; do
+        "$cc" -std=c99 "${warnings[@]}" "${flags[@]}" "-Iinclude/edition-$edition" "-DFUNCTION=kind_by_edition_$edition" -c \
+            -o "$folder/kind-$edition.o" tests/c/kind_of_info.c || return 1
+    done
+    "$cc" -std=c99 "${warnings[@]}" "${flags[@]}" -o "$folder/two_headers" tests/c/two_headers.c "$folder/kind-1.o" "$folder/kind-2.o" \
+        "$lib" "${more[@]}" && "$folder/two_headers"
+}
+
+# The examples, with the newest header and with that of edition 1, against their stored output.
+examples() {
+    local folder=$1 name
+    for name in list edit; do
+        "$cc" -std=c99 "${warnings[@]}" "${flags[@]}" -Iinclude -o "$folder/$name" "examples/$name.c" "$lib" "${more[@]}" || return 1
+        program "$folder/$name-1" 1 "examples/$name.c" || return 1
+    done
+    tests/c/examples.sh "$folder" >"$folder/examples.out" 2>&1
+    diff tests/c/examples.out "$folder/examples.out"
+}
+
+# A C++ program with an edition's header.
+plus_plus() {
+    local folder=$1 edition=$2 standard=$3
+    "$cxx" "-std=$standard" "${warnings[@]}" "${flags[@]}" "-Iinclude/edition-$edition" -o "$folder/plus_plus" tests/c/plus_plus.cpp \
+        "$lib" "${more[@]}" && "$folder/plus_plus"
+}
+
+# Whether a text is a C file that an edition's header (0: include/boardid.h) lets compile without a warning.
+compiles() {
+    local folder=include
+    [ "$1" = 0 ] || folder=include/edition-$1
+    "$cc" "-std=$2" "${warnings[@]}" "-I$folder" -Iinclude -x c -fsyntax-only - <<<"$3"
+}
+
+# The tests of one compiler.
+compiler() {
+    cc=$1 cxx=$(plus_plus_of "$1")
+    local sanitizers=(-O1 -g "-fsanitize=address,undefined" -fno-sanitize-recover=all)
+    local flavour folder edition standard name
+    for flavour in plain sanitized; do
+        flags=(-O2)
+        if [ "$flavour" = sanitized ]; then
+            flags=("${sanitizers[@]}")
+            echo 'int main(void) { return 0; }' >"$room/empty.c"
+            if ! { "$cc" "${flags[@]}" -o "$room/empty" "$room/empty.c" && "$room/empty"; } >"$room/output" 2>&1; then
+                echo "left out: $cc has no sanitizers here"
+                continue
+            fi
+        fi
+        folder=$room/$cc-$flavour
+        mkdir -p "$folder"
+        for edition in "${editions[@]}"; do
+            for name in layouts calls old_header; do
+                try "$cc, $flavour: $name compiled with edition $edition" program "$folder/$name-$edition" "$edition" "tests/c/$name.c"
+            done
+            for name in layouts calls; do
+                try "$cc, $flavour: $name of edition $edition" "$folder/$name-$edition"
+            done
+        done
+        try "$cc, $flavour: old and new header on the same files" old_and_new "$folder"
+        try "$cc, $flavour: two headers in one program" two_headers "$folder"
+        try "$cc, $flavour: the examples" examples "$folder"
+        if command -v "$cxx" >"$room/output"; then
+            for edition in "${editions[@]}"; do
+                try "$cxx, $flavour: C++17 with edition $edition" plus_plus "$folder" "$edition" c++17
+            done
+        fi
+    done
+    flags=(-O2)
+    if command -v "$cxx" >"$room/output"; then
+        for edition in "${editions[@]}"; do
+            for standard in c++98 c++11 c++20; do
+                try "$cxx: $standard with edition $edition" plus_plus "$room" "$edition" "$standard"
+            done
+        done
+    else
+        echo "left out: there is no $cxx"
+    fi
+
+    # Headers alone.
+    for edition in 0 "${editions[@]}"; do
+        for standard in c99 c11 c17; do
+            try "$cc: header $edition alone in $standard" compiles "$edition" "$standard" $'#include <boardid.h>\n#include <boardid.h>'
+        done
+    done
+    try "$cc: boardid.h is edition $newest" compiles 0 c99 "#include <boardid.h>
+typedef char newest[BOARDID_EDITION == $newest ? 1 : -1];"
+    for edition in "${editions[@]}"; do
+        try "$cc: edition $edition is $edition" compiles "$edition" c99 "#include <boardid.h>
+typedef char itself[BOARDID_EDITION == $edition ? 1 : -1];"
+    done
+    try "$cc: two editions in one file are refused" refuses compiles 0 c99 $'#include "edition-1/boardid.h"\n#include "edition-2/boardid.h"'
+    for name in BOARDID_FBOSS_X86_CPU_MAC_ADDRESSES BOARDID_FBOSS_BMC_MAC_ADDRESSES BOARDID_FBOSS_SWITCH_ASIC_MAC_ADDRESSES \
+        BOARDID_FBOSS_META_RESERVED_MAC_ADDRESSES BOARDID_VPD_INFO BOARDID_TINY_PRODUCT_IDENTITY_BATCH \
+        BOARDID_TINY_SYSTEM_PRODUCT_IDENTITY_BATCH BOARDID_READING_IDENTITY_WITH_BATCH boardid_record_batch; do
+        try "$cc: edition 2 has $name" compiles 2 c99 $'#include <boardid.h>\nvoid use(void);\nvoid use(void) { (void)'"$name; }"
+        try "$cc: edition 1 has no $name" refuses compiles 1 c99 $'#include <boardid.h>\nvoid use(void);\nvoid use(void) { (void)'"$name; }"
+    done
+}
+
+# Every name of an edition's header is in that of the next, whatever else is.
+later_has_all_names() {
+    local names
+    for edition in 1 2; do
+        grep -o -i 'boardid_[a-z0-9_]*' "include/edition-$edition/boardid.h" | sort -u >"$room/names-$edition"
+    done
+    names=$(comm -23 "$room/names-1" "$room/names-2")
+    echo "$names"
+    [ -z "$names" ] && [ -s "$room/names-1" ]
+}
+
+# The eight exported calls, and no other, are declared in a header and defined in the library.
+exported_calls() {
+    local name
+    nm -g --defined-only "$lib" >"$room/nm" 2>"$room/nm.errors"
+    for name in check list entry value string step write edit; do
+        grep -q " T boardid_$name\$" "$room/nm" || { echo "the library has no boardid_$name"; return 1; }
+        grep -q "^uint64_t boardid_$name(" "include/edition-$1/boardid.h" || { echo "the header has no boardid_$name"; return 1; }
+    done
+    [ "$(grep -c '^uint64_t boardid_' "include/edition-$1/boardid.h")" -eq 8 ]
+}
+
+# Runs make install with these words, and nothing of an outer make's.
+install_here() {
+    env -u MAKEFLAGS -u MAKEOVERRIDES -u DESTDIR -u INCLUDEDIR -u LIBDIR make -s install "LIB=$lib" "$@"
+}
+
+# What make installs is enough to build an example with the newest header, and with an older one.
+installed() {
+    local prefix=$room/prefix flags
+    install_here "PREFIX=$prefix" || return 1
+    cmp "$prefix/include/boardid.h" "include/edition-$newest/boardid.h" || return 1
+    export PKG_CONFIG_PATH=$prefix/lib/pkgconfig
+    pkg-config --atleast-version="$newest" boardid || return 1
+    read -r -a flags <<<"$(pkg-config --cflags --libs boardid)"
+    (cd "$room" && "$cc" -std=c99 -o list-installed "$root/examples/list.c" "${flags[@]}" "${more[@]}") || return 1
+    "$room/list-installed" vpd samples/sku.vpd | grep -q 'edition 2, 1 entry' || return 1
+    (cd "$room" && "$cc" -std=c99 "-I$(pkg-config --variable=edition_1 boardid)" -o list-installed-1 "$root/examples/list.c" "${flags[@]}" "${more[@]}") || return 1
+    "$room/list-installed-1" vpd samples/sku.vpd | grep -q 'edition 1, 1 entry' || return 1
+    printf '#include <boardid/edition-1/boardid.h>\ntypedef char one[BOARDID_EDITION == 1 ? 1 : -1];\n' >"$room/by_path.c"
+    "$cc" -std=c99 "-I$prefix/include" -fsyntax-only "$room/by_path.c"
+}
+
+# The files go below DESTDIR, and boardid.pc names the folders without it.
+staged() {
+    install_here PREFIX=/opt/board "DESTDIR=$room/staged" || return 1
+    [ -f "$room/staged/opt/board/lib/libboardid.a" ] && [ -f "$room/staged/opt/board/include/boardid.h" ] &&
+        grep -q '^prefix=/opt/board$' "$room/staged/opt/board/lib/pkgconfig/boardid.pc"
+}
+
+# The worked example of docs/C-INTERFACE.md: its program, and the output that stands there.
+worked_example() {
+    awk '/^```c$/ { take = 1; next } /^```$/ { if (take) exit } take' docs/C-INTERFACE.md >"$room/worked.c"
+    awk '/^```text$/ { take = 1; next } /^```$/ { if (take) exit } take' docs/C-INTERFACE.md >"$room/worked.out"
+    [ -s "$room/worked.c" ] && [ -s "$room/worked.out" ] || return 1
+    "$cc" -std=c99 "${warnings[@]}" -Iinclude -o "$room/worked" "$room/worked.c" "$lib" "${more[@]}" || return 1
+    "$room/worked" | diff "$room/worked.out" -
+}
+
+read -r -a compilers <<<"${COMPILERS:-gcc clang}"
+found=()
+for cc in "${compilers[@]}"; do
+    if command -v "$cc" >"$room/output"; then
+        found+=("$cc")
+        compiler "$cc"
+    else
+        echo "left out: there is no $cc"
+    fi
+done
+if [ "${#found[@]}" -eq 0 ]; then
+    echo 'there is no C compiler'
+    failed=1
+    finish
+    exit
+fi
+cc=${found[0]} flags=(-O2)
+try 'edition 2 has every name of edition 1' later_has_all_names
+for edition in "${editions[@]}"; do
+    try "edition $edition: the exported calls" exported_calls "$edition"
+done
+if command -v pkg-config >"$room/output"; then
+    try 'make install, pkg-config' installed
+else
+    echo 'left out: there is no pkg-config'
+fi
+try 'make install with DESTDIR' staged
+try 'the worked example of docs/C-INTERFACE.md' worked_example
+finish
