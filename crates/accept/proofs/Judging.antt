@@ -171,6 +171,7 @@ pub judged-end : (f : Format) (e : ℕ) (image : List ℕ) (start end p : ℕ) (
     (judge (shape f) e [] (rawsIn (walked f image start end)) start ≡ fine) × (allMarked (shape f .required) marks ≡ complete (shape f .required) (codesOf (rawsIn (walked f image start end))))
 unfolding judge
 judged-end f e image start end p shut marks w t =
-    let all : rawsIn (walked f image start end) ≡ w .pass .past = w .pass .joined ∙ ap (λ (l : List Raw). w .pass .past ++ l) t ∙ append-nil (w .pass .past) in
-    (w .left ∙ ap (λ (l : List Raw). judge (shape f) e (labels (w .pass .past)) l p) t,
-    marked-complete (shape f .required) (codesOf (w .pass .past)) marks (required-bytes f) (w .isMarked) ∙ ap (λ (l : List Raw). complete (shape f .required) (codesOf l)) (sym all))
+    let all : rawsIn (walked f image start end) ≡ w .pass .past = w .pass .joined ∙ ap (λ (l : List Raw). w .pass .past ++ l) t ∙ append-nil (w .pass .past) in (
+      w .left ∙ ap (λ (l : List Raw). judge (shape f) e (labels (w .pass .past)) l p) t,
+      marked-complete (shape f .required) (codesOf (w .pass .past)) marks (required-bytes f) (w .isMarked) ∙ ap (λ (l : List Raw). complete (shape f .required) (codesOf l)) (sym all),
+    )

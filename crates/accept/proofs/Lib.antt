@@ -1,3 +1,4 @@
 pub mod Endings
 pub mod Judging
 pub mod Seen
+pub mod Taking

@@ -1,64 +1,73 @@
+-- `accept::take_image` meets its contract: 16, 1, 2, the header, and the room of the entries.
+-- Assumes nothing.
+use Prim.Native.Nat.{ℕ, _+_, _≤_}
+use mathlib.Core.Path.{_≡_, refl, ap, sym, _∙_}
+use native.Mathlib.Omega.{arith}
 use borrow.Author.Needs.{needs}
+use denote.Ref.{now}
+use Rattle.accept.proofs.Taking.{room-inside, taken-unknown, taken-long, taken-closed, taken-room}
 use Rattle.accept.proofs.take_image.Statement.{statement}
 use Rattle.accept.proofs.take_image.Tie as tie
-use Rattle.accept.proofs.take_image.Reads as reads
-use Rattle.accept.proofs.take_image.Lts as lts
-use Rattle.accept.proofs.refused.Reads as refused-reads
-use Rattle.accept.proofs.take_room.Reads as take-room-reads
-use Rattle.frames.proofs.choose.Reads as choose-reads
-use Rattle.frames.proofs.open_image.Reads as open-image-reads
 
--- src/lib.rt:248:9
 choose-requires : tie.Need-choose-requires
 choose-requires c κs = search needs
 
--- src/lib.rt:250:25
 enum-known-c : tie.Need-enum-known-c
 enum-known-c c = search needs
 
--- src/lib.rt:250:31
 refused-requires : tie.Need-refused-requires
 refused-requires c κs = search needs
 
--- src/lib.rt:251:23
 enum-known-c-2 : tie.Need-enum-known-c-2
 enum-known-c-2 c = search needs
 
--- src/lib.rt:253:17
 refused-requires-2 : tie.Need-refused-requires-2
 refused-requires-2 c κs = search needs
 
--- src/lib.rt:253:17
 returns : tie.Need-returns
-returns c = ?
+returns c =
+    let a = c .before .before .before .before .before .before .before .args in
+    let g = c .before .before .before .c2 .given .0 .0 in
+    c .refused2 .ensures ∙ sym (taken-long (a .format) (a .edition) (now (a .image)) g (sym (c .before .before .before .before .before .choose .ensures) ∙ c .before .before .before .c2 .given .1) (c .before .if1 .taken))
 
--- src/lib.rt:255:17
 open-image-requires : tie.Need-open-image-requires
 open-image-requires c κs = search needs
 
--- src/lib.rt:257:32
 enum-known-o : tie.Need-enum-known-o
 enum-known-o c = search needs
 
--- src/lib.rt:258:30
 enum-known-o-2 : tie.Need-enum-known-o-2
 enum-known-o-2 c = search needs
 
--- src/lib.rt:258:45
 take-room-requires : tie.Need-take-room-requires
-take-room-requires c κs = ?
+take-room-requires c κs =
+    let a = c .before .before .before .before .before .before .before .before .before .before .args in
+    let g = c .before .before .before .before .before .before .c2 .given .0 .0 in
+    let s = c .before .o2 .given .0 .0 in
+    let n = c .before .o2 .given .0 .1 .0 in
+    let i = room-inside g (now (a .image)) s n (sym (c .before .before .before .open-image .ensures) ∙ c .before .o2 .given .1) in
+    (i .0, omega (arith, i .1))
 
--- src/lib.rt:245:1
 returns-2 : tie.Need-returns-2
-returns-2 c = ?
+returns-2 c =
+    let a = c .before .before .before .before .before .before .args in
+    let k = c .before .before .c .given .0 .0 in
+    c .refused .ensures ∙ sym (taken-unknown (a .format) (a .edition) (now (a .image)) k (sym (c .before .before .before .before .choose .ensures) ∙ c .before .before .c .given .1))
 
--- src/lib.rt:245:1
 returns-3 : tie.Need-returns-3
-returns-3 c = ?
+returns-3 c =
+    let a = c .before .before .before .before .before .before .before .before .before .before .args in
+    let g = c .before .before .before .before .before .before .c2 .given .0 .0 in
+    let r = c .before .o .given .0 .0 in
+    sym (taken-closed (a .format) (a .edition) (now (a .image)) g r (sym (c .before .before .before .before .before .before .before .before .choose .ensures) ∙ c .before .before .before .before .before .before .c2 .given .1) (c .before .before .before .before .if1 .left) (sym (c .before .before .before .open-image .ensures) ∙ c .before .o .given .1))
 
--- src/lib.rt:245:1
 returns-4 : tie.Need-returns-4
-returns-4 c = ?
+returns-4 c =
+    let a = c .before .before .before .before .before .before .before .before .before .before .before .args in
+    let g = c .before .before .before .before .before .before .before .c2 .given .0 .0 in
+    let s = c .before .before .o2 .given .0 .0 in
+    let n = c .before .before .o2 .given .0 .1 .0 in
+    c .take-room .ensures ∙ sym (taken-room (a .format) (a .edition) (now (a .image)) g s n (sym (c .before .before .before .before .before .before .before .before .before .choose .ensures) ∙ c .before .before .before .before .before .before .before .c2 .given .1) (c .before .before .before .before .before .if1 .left) (sym (c .before .before .before .before .open-image .ensures) ∙ c .before .before .o2 .given .1))
 
 pub take-image-spec : {M : Type 1} → statement M
 take-image-spec =

@@ -1,77 +1,105 @@
+-- `accept::take_room` meets its contract: the walk, the check, and the judgement.
+-- Assumes nothing.
+use Prim.Native.Nat.{ℕ, _+_, _≤_}
+use mathlib.Core.Path.{_≡_, refl, ap, sym, _∙_}
+use native.Mathlib.Omega.{arith}
 use borrow.Author.Needs.{needs}
+use borrow.Author.Tests.{not-true, not-false}
+use denote.Ref.{now}
+use Rattle.layout.specs.Bytes.{refusal}
+use Rattle.accept.specs.declared.Taken.the-variants.{Is, Isnt}
+use Rattle.accept.proofs.Taking.{ends-done, room-stops, room-unsealed, room-faulty, room-fine, closing-short}
 use Rattle.accept.proofs.take_room.Statement.{statement}
 use Rattle.accept.proofs.take_room.Tie as tie
-use Rattle.accept.proofs.take_room.Reads as reads
-use Rattle.accept.proofs.take_room.Lts as lts
-use Rattle.accept.proofs.closing_length.Reads as closing-length-reads
-use Rattle.accept.proofs.judge_image.Reads as judge-image-reads
-use Rattle.accept.proofs.refused.Reads as refused-reads
-use Rattle.accept.proofs.walk_image.Reads as walk-image-reads
-use Rattle.frames.proofs.is_sealed.Reads as is-sealed-reads
 
--- src/lib.rt:222:9
 walk-image-requires : tie.Need-walk-image-requires
 walk-image-requires c κs = search needs
 
--- src/lib.rt:224:23
 enum-known-w : tie.Need-enum-known-w
 enum-known-w c = search needs
 
--- src/lib.rt:224:32
 refused-requires : tie.Need-refused-requires
 refused-requires c κs = search needs
 
--- src/lib.rt:225:22
 enum-known-w-2 : tie.Need-enum-known-w-2
 enum-known-w-2 c = search needs
 
--- src/lib.rt:226:17
 is-sealed-requires : tie.Need-is-sealed-requires
 is-sealed-requires c κs = search needs
 
--- src/lib.rt:227:40
 closing-length-requires : tie.Need-closing-length-requires
 closing-length-requires c κs = search needs
 
--- src/lib.rt:227:36
 add-refused : tie.Need-add-refused
-add-refused c = ?
+add-refused c =
+    let a = c .before .before .before .before .before .before .before .before .args in
+    let image = now (a .image) in
+    let n = c .before .before .before .before .w2 .given .0 .0 in
+    let p = c .before .before .before .before .w2 .given .0 .1 .0 in
+    let d = ends-done (a .format) image (a .start) (a .end) n p (sym (c .before .before .before .before .before .before .walk-image .ensures) ∙ c .before .before .before .before .w2 .given .1) in
+    let short = closing-short (a .format) in
+    omega (arith, d .bound (c .before .before .before .before .before .before .before .before .pre .0), c .before .before .before .before .before .before .before .before .pre .1, c .closing-length .ensures)
 
--- src/lib.rt:227:17
 refused-requires-2 : tie.Need-refused-requires-2
 refused-requires-2 c κs = search needs
 
--- src/lib.rt:227:17
 returns : tie.Need-returns
-returns c = ?
+returns c =
+    let a = c .before .before .before .before .before .before .before .before .before .args in
+    let image = now (a .image) in
+    let n = c .before .before .before .before .before .w2 .given .0 .0 in
+    let p = c .before .before .before .before .before .w2 .given .0 .1 .0 in
+    let d = ends-done (a .format) image (a .start) (a .end) n p (sym (c .before .before .before .before .before .before .before .walk-image .ensures) ∙ c .before .before .before .before .before .w2 .given .1) in
+    let s = sym (c .before .before .before .is-sealed .ensures) ∙ not-true _ (c .before .before .if1 .taken) in
+    c .refused2 .ensures ∙ ap (λ (k : ℕ). Isnt (refusal 10 (p + k))) (c .before .closing-length .ensures) ∙ sym (room-unsealed (a .format) (a .edition) image (a .start) (a .end) n p d s)
 
--- src/lib.rt:229:17
 judge-image-requires : tie.Need-judge-image-requires
-judge-image-requires c κs = ?
+judge-image-requires c κs =
+    let a = c .before .before .before .before .before .before .before .args in
+    let image = now (a .image) in
+    let n = c .before .before .before .w2 .given .0 .0 in
+    let p = c .before .before .before .w2 .given .0 .1 .0 in
+    let d = ends-done (a .format) image (a .start) (a .end) n p (sym (c .before .before .before .before .before .walk-image .ensures) ∙ c .before .before .before .w2 .given .1) in
+    (c .before .before .before .before .before .before .before .pre .0, d .isDone)
 
--- src/lib.rt:231:35
 enum-known-j : tie.Need-enum-known-j
 enum-known-j c = search needs
 
--- src/lib.rt:231:44
 refused-requires-3 : tie.Need-refused-requires-3
 refused-requires-3 c κs = search needs
 
--- src/lib.rt:232:46
 enum-told : tie.Need-enum-told
 enum-told c = search needs
 
--- src/lib.rt:218:1
 returns-2 : tie.Need-returns-2
-returns-2 c = ?
+returns-2 c =
+    let a = c .before .before .before .before .before .before .args in
+    let image = now (a .image) in
+    let k = c .before .before .w .given .0 .0 in
+    let p = c .before .before .w .given .0 .1 .0 in
+    c .refused .ensures ∙ sym (room-stops (a .format) (a .edition) image (a .start) (a .end) k p (sym (c .before .before .before .before .walk-image .ensures) ∙ c .before .before .w .given .1))
 
--- src/lib.rt:218:1
 returns-3 : tie.Need-returns-3
-returns-3 c = ?
+returns-3 c =
+    let a = c .before .before .before .before .before .before .before .before .before .before .before .before .args in
+    let image = now (a .image) in
+    let n = c .before .before .before .before .before .before .before .before .w2 .given .0 .0 in
+    let p = c .before .before .before .before .before .before .before .before .w2 .given .0 .1 .0 in
+    let d = ends-done (a .format) image (a .start) (a .end) n p (sym (c .before .before .before .before .before .before .before .before .before .before .walk-image .ensures) ∙ c .before .before .before .before .before .before .before .before .w2 .given .1) in
+    let s = sym (c .before .before .before .before .before .before .is-sealed .ensures) ∙ not-false _ (c .before .before .before .before .before .if1 .left) in
+    let k = c .before .before .j .given .0 .0 in
+    let q = c .before .before .j .given .0 .1 .0 in
+    c .refused3 .ensures ∙ sym (room-faulty (a .format) (a .edition) image (a .start) (a .end) n p d k q s (sym (c .before .before .j .given .1) ∙ c .before .before .before .before .judge-image .ensures))
 
--- src/lib.rt:218:1
 returns-4 : tie.Need-returns-4
-returns-4 c = ?
+returns-4 c =
+    let a = c .before .before .before .before .before .before .before .before .before .before .args in
+    let image = now (a .image) in
+    let n = c .before .before .before .before .before .before .w2 .given .0 .0 in
+    let p = c .before .before .before .before .before .before .w2 .given .0 .1 .0 in
+    let d = ends-done (a .format) image (a .start) (a .end) n p (sym (c .before .before .before .before .before .before .before .before .walk-image .ensures) ∙ c .before .before .before .before .before .before .w2 .given .1) in
+    let s = sym (c .before .before .before .before .is-sealed .ensures) ∙ not-false _ (c .before .before .before .if1 .left) in
+    sym (room-fine (a .format) (a .edition) image (a .start) (a .end) n p d s (sym (c .enum-told .given .1) ∙ c .before .before .judge-image .ensures))
 
 pub take-room-spec : {M : Type 1} → statement M
 take-room-spec =

@@ -1,0 +1,161 @@
+-- An image is taken or refused, by its walk, its check and its judgement.
+-- Assumes nothing.
+use Prim.Native.Nat.{ℕ, _+_, _-_, _≤_, _<_}
+use mathlib.Core.Path.{_≡_, refl, ap, sym, _∙_}
+use mathlib.Core.List.{List, [], _++_}
+use mathlib.Core.Bool.{Bool, true, false, _&&_}
+use native.Mathlib.Omega.{arith}
+use lib.ListN.{length, getD, length-append}
+use lib.Dec.{ltb, leb, eqb}
+use borrow.Author.Tests.{ltb-false, leb-true, lt-ltb, le-ltb}
+use Rattle.layout.specs.declared.Format.{Format}
+use Rattle.layout.specs.declared.Format.the-variants.{Fboss, Vpd, Tiny}
+use Rattle.layout.specs.declared.Chosen.the-variants.{Known, Unknown}
+use Rattle.layout.specs.declared.Opened.the-variants.{Room, Closed}
+use Rattle.layout.specs.declared.Refusal.{Refusal}
+use Rattle.layout.specs.Bytes.{if, part, refusal}
+use Rattle.layout.specs.Shape.{Shape}
+use Rattle.layout.specs.Fboss.{fboss, fbossOpened}
+use Rattle.layout.specs.Vpd.{vpd}
+use Rattle.layout.specs.Tiny.{tiny, tinyOpened}
+use Rattle.layout.specs.Editions.{shape, chosen}
+use Rattle.layout.specs.Walk.{Raw, flat, Walked, done, stop}
+use Rattle.layout.specs.Read.{sealed, checkPlace, Judged, fine, faulty, judge, complete, codesOf, Read, accepted, refused, bad, readComplete, readWalked, readAs, readImage, limit}
+use Rattle.laws.specs.Passes.{walked, IsDone, rawsIn}
+use Rattle.laws.proofs.Choices.{either, both, OnOpened}
+use Rattle.laws.proofs.Passes.{part-most}
+use Rattle.laws.proofs.Walking.{walk-decode}
+use Rattle.laws.proofs.Images.{accepted-made}
+use Rattle.laws.proofs.Formats.{laws}
+use Rattle.accept.specs.declared.Ending.{Ending}
+use Rattle.accept.specs.declared.Ending.the-variants.{Ends, Stops}
+use Rattle.accept.specs.declared.Judgement.{Judgement}
+use Rattle.accept.specs.declared.Judgement.the-variants.{Fine, Faulty}
+use Rattle.accept.specs.declared.Taken.{Taken}
+use Rattle.accept.specs.declared.Taken.the-variants.{Is, Isnt}
+use Rattle.accept.specs.Passes.{endingOf, judgement, judged}
+use Rattle.accept.specs.Taken.{roomTaken, takenBy, taken}
+
+-- a walk that ended with n entries at p
+pub record Done (f : Format) (image : List ℕ) (start end n p : ℕ) : Type 0 where
+  pub raws : List Raw
+  pub isWalk : walked f image start end ≡ done raws p
+  pub count : n ≡ length raws
+  pub over : p ≡ start + length (flat raws)
+  pub bound : start ≤ end → p ≤ end
+  pub isDone : IsDone (walked f image start end)
+
+pub ends-done : (f : Format) (image : List ℕ) (start end n p : ℕ) → endingOf 0 (walked f image start end) ≡ Ends n p → Done f image start end n p
+ends-done f image start end n p q = go (walked f image start end) refl q
+  where
+    go : (w : Walked) → walked f image start end ≡ w → endingOf 0 w ≡ Ends n p → Done f image start end n p
+    go (done rs r) e q =
+        let place : r ≡ p = cc in
+        let count : 0 + length rs ≡ n = cc in
+        let walk : walked f image start end ≡ done rs p = e ∙ ap (done rs) place in
+        let d = walk-decode (laws f) start (part start (end - start) image) rs p walk in
+        record { raws = rs; isWalk = walk; count = omega arith; over = d .place; bound = λ le. omega (arith, d .place, ap length (d .joined), length-append (flat rs) (d .rest), part-most image start (end - start)); isDone = rw e tt }
+    go (stop k r) e q = let z : _≡_ {A = ℕ} 0 1 = cc in absurd (omega arith)
+
+module _ (f : Format) (e : ℕ) (image : List ℕ) (start end : ℕ) where
+  -- a broken frame
+  pub room-stops : (k p : ℕ) → endingOf 0 (walked f image start end) ≡ Stops k p → roomTaken (readWalked (walked f image start end) f e image start) end ≡ Isnt (refusal k p)
+  room-stops k p q = go (walked f image start end) q
+    where
+      go : (w : Walked) → endingOf 0 w ≡ Stops k p → roomTaken (readWalked w f e image start) end ≡ Isnt (refusal k p)
+      go (done rs r) q = let z : _≡_ {A = ℕ} 0 1 = cc in absurd (omega arith)
+      go (stop m r) q = let x : m ≡ k = cc in let y : r ≡ p = cc in rw (x, y)
+
+  module _ (n p : ℕ) (d : Done f image start end n p) where
+    -- a wrong check
+    pub room-unsealed : sealed (shape f) image p ≡ false → roomTaken (readWalked (walked f image start end) f e image start) end ≡ Isnt (refusal 10 (checkPlace (shape f) p))
+    room-unsealed s = rw (d .isWalk, s)
+
+    judged-raws : (j : Judgement) → j ≡ judged f e (rawsIn (walked f image start end)) start → judgement (judge (shape f) e [] (d .raws) start) (complete (shape f .required) (codesOf (d .raws))) ≡ j
+    judged-raws j q = sym (q ∙ ap (λ (w : Walked). judged f e (rawsIn w) start) (d .isWalk))
+
+    -- a rule broken, or a required field missing
+    pub room-faulty : (k q : ℕ) → sealed (shape f) image p ≡ true → Faulty k q ≡ judged f e (rawsIn (walked f image start end)) start →
+        roomTaken (readWalked (walked f image start end) f e image start) end ≡ Isnt (refusal k q)
+    room-faulty k q s j =
+        rw (d .isWalk, s) (go (judge (shape f) e [] (d .raws) start) (complete (shape f .required) (codesOf (d .raws))) refl (judged-raws (Faulty k q) j))
+      where
+        go : (x : Judged) (b : Bool) → complete (shape f .required) (codesOf (d .raws)) ≡ b → judgement x b ≡ Faulty k q →
+            roomTaken (readComplete x f start (d .raws)) end ≡ Isnt (refusal k q)
+        go fine true c h = let z : _≡_ {A = ℕ} 0 1 = cc in absurd (omega arith)
+        go fine false c h = let y : 11 ≡ k = cc in let z : 0 ≡ q = cc in rw (c, ← y, ← z)
+        go (faulty m r) b c h = let y : m ≡ k = cc in let z : r ≡ q = cc in rw (y, z)
+
+    -- nothing is wrong
+    pub room-fine : sealed (shape f) image p ≡ true → Fine ≡ judged f e (rawsIn (walked f image start end)) start →
+        roomTaken (readWalked (walked f image start end) f e image start) end ≡ Is (record { format = f; start = start; end = end; over = p; count = n })
+    room-fine s j =
+        rw (d .isWalk, s, d .over, d .count) (go (judge (shape f) e [] (d .raws) start) (complete (shape f .required) (codesOf (d .raws))) refl (judged-raws Fine j))
+      where
+        go : (x : Judged) (b : Bool) → complete (shape f .required) (codesOf (d .raws)) ≡ b → judgement x b ≡ Fine →
+            roomTaken (readComplete x f start (d .raws)) end ≡ Is (record { format = f; start = start; end = end; over = start + length (flat (d .raws)); count = length (d .raws) })
+        go fine true c h = rw c
+        go fine false c h = let z : _≡_ {A = ℕ} 0 1 = cc in absurd (omega arith)
+        go (faulty m r) b c h = let z : _≡_ {A = ℕ} 0 1 = cc in absurd (omega arith)
+
+-- a closing has at most two bytes
+pub closing-short : (f : Format) → length (shape f .closing) ≤ 2
+unfolding fboss vpd tiny
+closing-short Fboss = omega arith
+closing-short Vpd = omega arith
+closing-short Tiny = omega arith
+
+-- ---- the whole image
+
+Inside : List ℕ → ℕ → ℕ → Type 0
+Inside image start end = (start ≤ end) × (end ≤ length image)
+
+rooms : (f : Format) (image : List ℕ) → OnOpened (Inside image) (shape f .opened image)
+unfolding fboss vpd tiny fbossOpened tinyOpened Inside
+rooms Fboss s =
+    either (OnOpened (Inside s)) (ltb (length s) 4) (λ _. tt)
+    (λ long. either (OnOpened (Inside s)) (eqb (getD s 0 0) 0xFB && eqb (getD s 1 0) 0xFB)
+    (λ _. either (OnOpened (Inside s)) (eqb (getD s 2 0) 0x05)
+    (λ _. either (OnOpened (Inside s)) (eqb (getD s 3 0) 0xFF) (λ _. (ltb-false (length s) 4 long, omega arith)) (λ _. tt))
+    (λ _. tt))
+    (λ _. tt))
+rooms Vpd s = (omega arith, omega arith)
+rooms Tiny s =
+    either (OnOpened (Inside s)) (ltb (length s) 3) (λ _. tt)
+    (λ _. either (OnOpened (Inside s)) (eqb (getD s 0 0) 0x56)
+    (λ _. either (OnOpened (Inside s)) (eqb (getD s 1 0) 0x02)
+    (λ _. either (OnOpened (Inside s)) (leb 4 (getD s 2 0) && leb (getD s 2 0) (length s))
+    (λ t. let w = both (leb 4 (getD s 2 0)) (leb (getD s 2 0) (length s)) t in
+    (omega (arith, leb-true 4 (getD s 2 0) (w .0)), omega (arith, leb-true (getD s 2 0) (length s) (w .1))))
+    (λ _. tt))
+    (λ _. tt))
+    (λ _. tt))
+
+-- the room of the entries lies inside the image
+pub room-inside : (f : Format) (image : List ℕ) (start end : ℕ) → shape f .opened image ≡ Room start end → (start ≤ end) × (end ≤ length image)
+unfolding Inside
+room-inside f image start end e = rw e at (rooms f image)
+
+module _ (f e : ℕ) (image : List ℕ) where
+  pub taken-unknown : (n : ℕ) → chosen f e ≡ Unknown n → taken f e image ≡ Isnt (refusal n 0)
+  unfolding taken readImage
+  taken-unknown n k = rw k
+
+  pub taken-long : (g : Format) → chosen f e ≡ Known g → limit < length image → taken f e image ≡ Isnt (refusal 2 0)
+  unfolding taken readImage
+  taken-long g k lt = rw (k, lt-ltb limit (length image) lt)
+
+  pub taken-closed : (g : Format) (r : Refusal) → chosen f e ≡ Known g → length image ≤ limit → shape g .opened image ≡ Closed r → taken f e image ≡ Isnt r
+  unfolding taken readImage readAs
+  taken-closed g r k le o = rw (k, le-ltb limit (length image) le, o)
+
+  pub taken-room : (g : Format) (start end : ℕ) → chosen f e ≡ Known g → length image ≤ limit → shape g .opened image ≡ Room start end →
+      taken f e image ≡ roomTaken (readWalked (walked g image start end) g e image start) end
+  unfolding taken readImage readAs
+  taken-room g start end k le o = rw (k, le-ltb limit (length image) le, o) (go (readWalked (walked g image start end) g e image start) refl)
+    where
+      go : (x : Read) → readWalked (walked g image start end) g e image start ≡ x → takenBy x image ≡ roomTaken x end
+      go (accepted h s rs) q =
+          let same : h ≡ g = accepted-made g (laws g) e image h s rs (unfold readAs in (rw o q)) .0 in
+          rw (same, o)
+      go (refused r) q = refl

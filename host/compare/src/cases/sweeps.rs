@@ -1,0 +1,237 @@
+//! Sweeps over small images: every format, every length, every byte, every code.
+
+use super::scope::every_tag_image;
+use super::sources::{fboss_example_image, vpd_example_image};
+use super::*;
+use crate::fields::List;
+use crate::generate::{kept, named};
+use crate::image::{seal, Entry, Format, Image, FORMATS, LONGEST};
+use crate::plan;
+use crate::random::Random;
+
+/// The three small images of the sweeps.
+fn small_images() -> [(Format, Vec<u8>); 3] {
+    let mut vpd = vpd_example_image();
+    vpd.pop();
+    vpd.extend(b"\xFE\x08gVpdInfo\x04\x00\x01\x00\x00\x01\x80\x01A\x80\x00\x00");
+    [
+        (Format::Fboss, fboss_example_image()),
+        (Format::Vpd, vpd),
+        (Format::Tiny, every_tag_image()),
+    ]
+}
+
+/// All eight calls with every format and edition, known or not, on images of every format.
+pub fn every_format_and_edition(compare: &mut Comparison) {
+    let mut fields = List::new();
+    fields.add(1, b"SKU", b"A7");
+    let field_bytes = fields.bytes();
+    for (_, image) in small_images() {
+        for format in [
+            0,
+            1,
+            2,
+            3,
+            4,
+            5,
+            255,
+            256,
+            257,
+            258,
+            259,
+            1 << 16,
+            1 << 31,
+            u32::MAX,
+        ] {
+            for edition in [
+                0,
+                1,
+                2,
+                3,
+                4,
+                255,
+                256,
+                257,
+                258,
+                1 << 16,
+                1 << 31,
+                u32::MAX,
+            ] {
+                compare.next_case();
+                let check = Call::check(format, edition, &image);
+                compare.call(&check);
+                compare.call(&check.list(20 * RECORD));
+                compare.call(&check.entry(1, RECORD));
+                compare.call(&check.value(1));
+                compare.call(&check.string(1));
+                compare.call(&check.step(&walk_bytes(format, edition, 1), RECORD));
+                compare.call(&check.edit(1, b"A7", 300));
+                for room in [64, LONGEST + 1] {
+                    let values = &fields.values;
+                    compare.call(&Call::write(format, edition, &field_bytes, values, room));
+                    compare.call(&check.edit(1, b"A7", room));
+                }
+            }
+        }
+    }
+}
+
+/// Every call on every beginning of a small image of each format.
+pub fn every_length(compare: &mut Comparison) {
+    for (format, image) in small_images() {
+        compare.next_case();
+        plan::on_beginnings(compare, format, &image);
+    }
+}
+
+/// Every byte of a small image with each of its 256 values, the check as it was and made right.
+fn every_byte(compare: &mut Comparison, format: Format, image: &[u8]) {
+    for place in 0..image.len() {
+        for value in 0..=255 {
+            compare.next_case();
+            let mut changed = image.to_vec();
+            changed[place] = value;
+            for edition in [1, 2] {
+                compare.call(&Call::check(format.number(), edition, &changed));
+            }
+            seal(format, &mut changed);
+            for edition in [1, 2] {
+                let check = Call::check(format.number(), edition, &changed);
+                compare.call(&check.list(30 * RECORD));
+            }
+        }
+    }
+}
+
+pub fn fboss_bytes(compare: &mut Comparison) {
+    let [(format, image), _, _] = small_images();
+    every_byte(compare, format, &image);
+}
+
+pub fn vpd_bytes(compare: &mut Comparison) {
+    let [_, (format, image), _] = small_images();
+    every_byte(compare, format, &image);
+}
+
+pub fn tiny_bytes(compare: &mut Comparison) {
+    let [_, _, (format, image)] = small_images();
+    every_byte(compare, format, &image);
+}
+
+/// Edits of every entry of a small image: to every length, and with every value of each byte.
+pub fn values_of_edits(compare: &mut Comparison) {
+    for (format, image) in small_images() {
+        let check = Call::check(format.number(), 2, &image);
+        let entries = second::list(check.format, 2, &image, usize::MAX).unwrap_or_default();
+        for (n, entry) in (0..).zip(&entries) {
+            compare.next_case();
+            for length in (0..=20).chain(125..=130).chain(240..=260) {
+                let value = vec![b'1'; length];
+                for edition in [1, 2] {
+                    let call = Call { edition, ..check };
+                    compare.call(&call.edit(n, &value, 480));
+                }
+            }
+            let old = &image[entry.value_place as usize..][..entry.value_len as usize];
+            for place in 0..old.len() {
+                for byte in 0..=255 {
+                    let mut value = old.to_vec();
+                    value[place] = byte;
+                    compare.call(&check.edit(n, &value, 300));
+                }
+            }
+        }
+    }
+}
+
+/// Writes with a field of every code to 300, after the fields that a format requires, with a value
+/// that keeps the code's rule and with one of each length.
+pub fn codes_of_fields(compare: &mut Comparison) {
+    for format in FORMATS {
+        for edition in [1, 2] {
+            for code in 0..=300 {
+                compare.next_case();
+                let mut random = Random::of_input(0, format.number(), u64::from(code));
+                let mut list = List::new();
+                if format == Format::Fboss {
+                    for required in named(format, 1) {
+                        if u32::from(required) != code {
+                            let value = kept(&mut random, format, required);
+                            list.add(required.into(), &[], &value);
+                        }
+                    }
+                }
+                let value = kept(&mut random, format, code as u8);
+                list.add(code, b"key", &value);
+                let number = format.number();
+                compare.call(&Call::write(
+                    number,
+                    edition,
+                    &list.bytes(),
+                    &list.values,
+                    3_000,
+                ));
+                for length in 0..=16 {
+                    let mut list = List::new();
+                    list.add(code, b"key", &vec![b'0'; length]);
+                    compare.call(&Call::write(
+                        number,
+                        edition,
+                        &list.bytes(),
+                        &list.values,
+                        40,
+                    ));
+                }
+            }
+        }
+    }
+}
+
+/// A byte that breaks the rule at each place of a long key and of a long text, and two long keys that
+/// differ in the byte at each place.
+pub fn places_of_long_parts(compare: &mut Comparison) {
+    const LENGTH: usize = 300;
+    for place in 0..LENGTH {
+        compare.next_case();
+        let good = vec![b'k'; LENGTH];
+        let mut bad = good.clone();
+        bad[place] = b'-';
+        let mut other = good.clone();
+        other[place] = b'K';
+        for (first, second) in [
+            (&bad, &other),
+            (&other, &good),
+            (&good, &bad),
+            (&good, &good),
+        ] {
+            let entries = [first, second].map(|key| Entry::with_key(1, key.clone(), Vec::new()));
+            let image = Image::new(Format::Vpd, entries.to_vec()).bytes();
+            compare.call(&Call::check(VPD, 2, &image));
+            let mut list = List::new();
+            list.add(1, first, b"");
+            list.add(1, second, b"");
+            compare.call(&Call::write(
+                VPD,
+                2,
+                &list.bytes(),
+                &list.values,
+                2 * LENGTH + 20,
+            ));
+        }
+
+        let mut text = vec![b'~'; 255];
+        if let Some(byte) = text.get_mut(place) {
+            *byte = 0x7F;
+        }
+        let image = fboss_example_image();
+        let check = Call::check(FBOSS, 2, &image);
+        compare.call(&check.edit(0, &text, 600));
+        let mut edited = vec![0; 600];
+        let good = vec![b'~'; 255];
+        let answer = second::bytes::edit(FBOSS, 2, &image, 0, &good, &mut edited);
+        edited.truncate((answer >> 32) as usize);
+        edited[6..6 + 255].copy_from_slice(&text);
+        seal(Format::Fboss, &mut edited);
+        compare.call(&Call::check(FBOSS, 2, &edited));
+    }
+}

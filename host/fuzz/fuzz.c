@@ -1,0 +1,461 @@
+/*
+ * A fuzz harness over the eight calls of libboardid.a, for libFuzzer.
+ *
+ * It needs no second implementation: it holds the calls to what document 01 says of all of them,
+ * and to each other. A call that is refused leaves lent memory as it was, an accepted write or edit
+ * is read back, a list is what its entries say one by one, and so on. Where something does not hold
+ * the program stops.
+ *
+ * An input is seven bytes, then the second part, then the first part:
+ *
+ *   0     the call: check, list, entry, value, string, step, write, edit
+ *   1     the format, by number in FORMATS
+ *   2     the edition, by number in EDITIONS
+ *   3     n, or by number in NUMBERS from F0h on
+ *   4     bits 0 to 2: how much memory is lent, by number in `room_of`; bit 3: the image is given
+ *         right checks first; bits 4 to 7: how many bytes of a walk are cut off
+ *   5, 6  the length of the second part, low byte first
+ *
+ * The first part is the image, or the fields of a write. The second part is the new value of an
+ * edit, or the values of a write.
+ */
+
+#define _DEFAULT_SOURCE /* MAP_ANONYMOUS */
+
+#include <stdint.h>
+#include <stdio.h>
+#include <stdlib.h>
+#include <string.h>
+#include <sys/mman.h>
+#include <unistd.h>
+
+uint64_t boardid_check(uint32_t format, uint32_t edition, const uint8_t *image, size_t image_len);
+uint64_t boardid_list(uint32_t format, uint32_t edition, const uint8_t *image, size_t image_len,
+                      uint8_t *records, size_t records_len);
+uint64_t boardid_entry(uint32_t format, uint32_t edition, const uint8_t *image, size_t image_len,
+                       uint64_t n, uint8_t *record, size_t record_len);
+uint64_t boardid_value(uint32_t format, uint32_t edition, const uint8_t *image, size_t image_len,
+                       uint64_t n);
+uint64_t boardid_string(uint32_t format, uint32_t edition, const uint8_t *image, size_t image_len,
+                        uint64_t number);
+uint64_t boardid_step(uint8_t *walk, size_t walk_len, const uint8_t *image, size_t image_len,
+                      uint8_t *record, size_t record_len);
+uint64_t boardid_write(uint32_t format, uint32_t edition, const uint8_t *fields, size_t fields_len,
+                       const uint8_t *values, size_t values_len, uint8_t *out, size_t out_len);
+uint64_t boardid_edit(uint32_t format, uint32_t edition, const uint8_t *image, size_t image_len,
+                      uint64_t n, const uint8_t *value, size_t value_len, uint8_t *out,
+                      size_t out_len);
+
+enum { CHECK, LIST, ENTRY, VALUE, STRING, STEP, WRITE, EDIT };
+
+#define LONGEST 65536u
+#define RECORD 64u
+#define FIELD 20u
+#define WALK 16u
+
+static const uint32_t FORMATS[8] = {1, 2, 3, 0, 4, 257, 259, UINT32_MAX};
+static const uint32_t EDITIONS[8] = {1, 2, 0, 3, 4, 257, 258, UINT32_MAX};
+static const uint64_t NUMBERS[16] = {
+    0xF0, 0xFF, 0x100, 0x101, 0x7FFF, 0xFFFF, 0x10000, 0x7FFFFFFF,
+    0x80000000, 0xFFFFFFFF, 0x100000000, 0x100000001, 1ull << 58, 1ull << 63, UINT64_MAX - 1,
+    UINT64_MAX};
+
+/* Stops where a condition does not hold, and says which. */
+#define HOLDS(condition)                                                      \
+    do {                                                                      \
+        if (!(condition)) {                                                   \
+            fprintf(stderr, "fuzz.c:%d: not so: %s\n", __LINE__, #condition); \
+            abort();                                                          \
+        }                                                                     \
+    } while (0)
+
+/* libFuzzer takes these for coverage. The library has no counters of its own, so the answers it gives
+   stand in for them. */
+__attribute__((section("__libfuzzer_extra_counters"))) static uint8_t counters[8 * 32 * 64];
+
+static unsigned log2_of(uint64_t number) {
+    unsigned bits = 0;
+    for (; number > 0; number >>= 1) bits++;
+    return bits;
+}
+
+static unsigned refusal(uint64_t answer) { return (unsigned)(answer >> 59); }
+static uint64_t place(uint64_t answer) { return answer & ((1ull << 59) - 1); }
+static uint64_t count(uint64_t answer) { return place(answer) >> 32; }
+
+static void counted(unsigned call, uint64_t answer) {
+    uint64_t what = refusal(answer) != 0 ? place(answer) : count(answer);
+    /* Small numbers one by one, others by their size. */
+    unsigned bucket = what < 32 ? (unsigned)what : 32 + log2_of(what) % 32;
+    counters[(call * 32 + refusal(answer)) * 64 + bucket] = 1;
+}
+
+/*
+ * Lent memory. Each call is made three times: on heap blocks of exactly the length lent, which the
+ * address sanitizer guards, and on memory that ends where a page that can't be touched begins, or
+ * begins where one ends. The last two also catch the library's own code, which has no sanitizer.
+ */
+enum { HEAP, BEFORE_GUARD, AFTER_GUARD, WAYS };
+
+struct lent {
+    uint8_t *bytes;
+    size_t len;
+};
+
+/* Room for the longest part of each kind, between two guard pages. */
+#define ROOM (8u << 20)
+enum { FIRST, OTHER, OUT, THE_WALK, PARTS };
+static uint8_t *arenas[PARTS];
+static size_t page;
+
+static void make_arenas(void) {
+    page = (size_t)sysconf(_SC_PAGESIZE);
+    for (int part = 0; part < PARTS; part++) {
+        uint8_t *all = mmap(NULL, ROOM + 2 * page, PROT_NONE, MAP_PRIVATE | MAP_ANONYMOUS, -1, 0);
+        HOLDS(all != MAP_FAILED);
+        HOLDS(mprotect(all + page, ROOM, PROT_READ | PROT_WRITE) == 0);
+        arenas[part] = all + page;
+    }
+}
+
+static struct lent lend(int way, int part, const uint8_t *bytes, size_t len) {
+    struct lent lent = {NULL, len};
+    HOLDS(len <= ROOM);
+    switch (way) {
+    case HEAP: lent.bytes = malloc(len); break;
+    case BEFORE_GUARD: lent.bytes = arenas[part] + ROOM - len; break;
+    default: lent.bytes = arenas[part]; break;
+    }
+    if (len > 0) memcpy(lent.bytes, bytes, len);
+    return lent;
+}
+
+static void take_back(int way, struct lent lent) {
+    if (way == HEAP) free(lent.bytes);
+}
+
+static int same(const uint8_t *a, const uint8_t *b, size_t len) {
+    return len == 0 || memcmp(a, b, len) == 0;
+}
+
+/* What one input asks for. */
+struct request {
+    unsigned call;
+    uint32_t format, edition;
+    uint64_t n;
+    unsigned room_mode, cut;
+    const uint8_t *first, *other;
+    size_t first_len, other_len;
+};
+
+/* The content of written memory before a call. */
+static uint8_t *filled(size_t len) {
+    uint8_t *bytes = malloc(len + 1);
+    for (size_t i = 0; i < len; i++) bytes[i] = (uint8_t)(i * 167 + 91);
+    return bytes;
+}
+
+/*
+ * Makes the call of a request in every way, with so much memory lent, and holds it to what is true of
+ * any call: the answer is one of the table, only what is lent to be written is written, and nothing
+ * where the call is refused. Gives the answer, and what was written in `out`.
+ */
+static uint64_t make(const struct request *r, uint8_t *out, size_t out_len) {
+    uint8_t *before = filled(out_len);
+    uint8_t walk[WALK];
+    size_t walk_len = WALK - r->cut;
+    for (int i = 0; i < 4; i++) {
+        walk[i] = (uint8_t)(r->format >> 8 * i);
+        walk[4 + i] = (uint8_t)(r->edition >> 8 * i);
+    }
+    for (int i = 0; i < 8; i++) walk[8 + i] = (uint8_t)(r->n >> 8 * i);
+
+    uint64_t answer = 0;
+    for (int way = 0; way < WAYS; way++) {
+        struct lent a = lend(way, FIRST, r->first, r->first_len);
+        struct lent b = lend(way, OTHER, r->other, r->other_len);
+        struct lent o = lend(way, OUT, before, out_len);
+        struct lent w = lend(way, THE_WALK, walk, walk_len);
+        uint32_t f = r->format, e = r->edition;
+        uint64_t given = 0;
+        switch (r->call) {
+        case CHECK: given = boardid_check(f, e, a.bytes, a.len); break;
+        case LIST: given = boardid_list(f, e, a.bytes, a.len, o.bytes, o.len); break;
+        case ENTRY: given = boardid_entry(f, e, a.bytes, a.len, r->n, o.bytes, o.len); break;
+        case VALUE: given = boardid_value(f, e, a.bytes, a.len, r->n); break;
+        case STRING: given = boardid_string(f, e, a.bytes, a.len, r->n); break;
+        case STEP: given = boardid_step(w.bytes, w.len, a.bytes, a.len, o.bytes, o.len); break;
+        case WRITE:
+            given = boardid_write(f, e, a.bytes, a.len, b.bytes, b.len, o.bytes, o.len);
+            break;
+        default:
+            given = boardid_edit(f, e, a.bytes, a.len, r->n, b.bytes, b.len, o.bytes, o.len);
+            break;
+        }
+        HOLDS(same(a.bytes, r->first, a.len));
+        HOLDS(same(b.bytes, r->other, b.len));
+        if (refusal(given) != 0) {
+            HOLDS(same(o.bytes, before, o.len));
+            HOLDS(same(w.bytes, walk, w.len));
+        } else if (r->call == STEP) {
+            uint64_t next = r->n + 1;
+            HOLDS(w.len == WALK && same(w.bytes, walk, 8));
+            for (int i = 0; i < 8; i++) HOLDS(w.bytes[8 + i] == (uint8_t)(next >> 8 * i));
+        } else {
+            HOLDS(same(w.bytes, walk, w.len));
+        }
+        if (way == HEAP) {
+            answer = given;
+            if (out_len > 0) memcpy(out, o.bytes, out_len);
+        }
+        HOLDS(given == answer);
+        HOLDS(same(o.bytes, out, out_len));
+        take_back(way, a);
+        take_back(way, b);
+        take_back(way, o);
+        take_back(way, w);
+    }
+    free(before);
+    counted(r->call, answer);
+
+    unsigned number = refusal(answer);
+    HOLDS(number <= 16);
+    if (number != 0 && !(number >= 5 && number <= 10) && number != 14) {
+        HOLDS(place(answer) == 0 || (r->call == WRITE && number == 13));
+    }
+    if (number != 0) {
+        HOLDS(place(answer) <= (r->call == WRITE ? r->first_len / FIELD : r->first_len));
+    } else if (r->call != VALUE && r->call != STRING) {
+        HOLDS((answer & UINT32_MAX) == 0);
+    }
+    return answer;
+}
+
+static uint32_t word(const uint8_t *bytes, unsigned number) {
+    const uint8_t *at = bytes + 4 * number;
+    return at[0] | (uint32_t)at[1] << 8 | (uint32_t)at[2] << 16 | (uint32_t)at[3] << 24;
+}
+
+/* The list of an image, or NULL where check refuses it. */
+static uint8_t *listed(uint32_t format, uint32_t edition, const uint8_t *image, size_t len,
+                       uint64_t *entries) {
+    uint64_t answer = boardid_check(format, edition, image, len);
+    *entries = 0;
+    if (refusal(answer) != 0) return NULL;
+    *entries = count(answer);
+    uint8_t *records = malloc(*entries * RECORD + 1);
+    HOLDS(boardid_list(format, edition, image, len, records, *entries * RECORD) == answer);
+    return records;
+}
+
+/* Two lists with the same codes, keys and values, but for the value of one entry. */
+static void hold_alike(const uint8_t *image, const uint8_t *records, const uint8_t *other_image,
+                       const uint8_t *other_records, uint64_t entries, uint64_t but_for) {
+    for (uint64_t i = 0; i < entries; i++) {
+        const uint8_t *a = records + i * RECORD, *b = other_records + i * RECORD;
+        HOLDS(word(a, 0) == word(b, 0) && word(a, 4) == word(b, 4));
+        HOLDS(same(image + word(a, 3), other_image + word(b, 3), word(a, 4)));
+        if (i == but_for) continue;
+        HOLDS(word(a, 6) == word(b, 6));
+        HOLDS(same(image + word(a, 5), other_image + word(b, 5), word(a, 6)));
+    }
+}
+
+/* An image that is accepted: its list, entry by entry, and the other edition's. */
+static void hold_image(const struct request *r) {
+    uint64_t entries, others;
+    uint8_t *records = listed(r->format, r->edition, r->first, r->first_len, &entries);
+    if (records == NULL) return;
+    /* The entries begin after the header and lie without gaps. */
+    uint64_t end = r->format == 1 ? 4 : r->format == 2 ? 0 : 3;
+    for (uint64_t i = 0; i < entries; i++) {
+        const uint8_t *record = records + i * RECORD;
+        HOLDS(word(record, 2) == end && word(record, 3) > word(record, 2));
+        HOLDS((uint64_t)word(record, 3) + word(record, 4) <= word(record, 5));
+        end = (uint64_t)word(record, 5) + word(record, 6);
+        HOLDS(end <= r->first_len);
+        /* One by one is as slow as it sounds: a few are enough. */
+        if (i < 8 || i + 2 > entries) {
+            uint8_t one[RECORD];
+            uint64_t value = boardid_value(r->format, r->edition, r->first, r->first_len, i);
+            HOLDS(value == ((uint64_t)word(record, 6) << 32 | word(record, 5)));
+            HOLDS(boardid_entry(r->format, r->edition, r->first, r->first_len, i, one, RECORD) ==
+                  1ull << 32);
+            HOLDS(same(one, record, RECORD));
+        }
+    }
+    HOLDS(refusal(boardid_value(r->format, r->edition, r->first, r->first_len, entries)) == 13);
+    if (r->edition == 2) {
+        uint8_t *older = listed(r->format, 1, r->first, r->first_len, &others);
+        HOLDS(older != NULL && others == entries);
+        hold_alike(r->first, records, r->first, older, entries, UINT64_MAX);
+        free(older);
+    }
+    free(records);
+}
+
+/* An output: FFh after the image, which is accepted whole and up to its length. */
+static uint8_t *hold_output(const struct request *r, const uint8_t *out, size_t out_len,
+                            uint64_t len, uint64_t *entries) {
+    HOLDS(len > 0 && len <= out_len);
+    for (size_t i = len; i < out_len; i++) HOLDS(out[i] == 0xFF);
+    uint64_t whole = boardid_check(r->format, r->edition, out, out_len);
+    HOLDS(refusal(whole) == 0);
+    HOLDS(boardid_check(r->format, r->edition, out, len) == whole);
+    /* No shorter beginning of the output is an image. */
+    HOLDS(refusal(boardid_check(r->format, r->edition, out, len - 1)) != 0);
+    return listed(r->format, r->edition, out, len, entries);
+}
+
+/* A write that is accepted reads back. */
+static void hold_write(const struct request *r, const uint8_t *out, size_t out_len, uint64_t len) {
+    uint64_t entries;
+    uint8_t *records = hold_output(r, out, out_len, len, &entries);
+    HOLDS(entries == r->first_len / FIELD);
+    for (uint64_t i = 0; i < entries; i++) {
+        const uint8_t *field = r->first + i * FIELD, *record = records + i * RECORD;
+        uint32_t key_len = r->format == 2 ? word(field, 2) : 0;
+        HOLDS(word(record, 0) == word(field, 0));
+        HOLDS(word(record, 1) == r->format * 256 + word(field, 0));
+        HOLDS(word(record, 4) == key_len && word(record, 6) == word(field, 4));
+        if (key_len > 0) {
+            HOLDS(same(out + word(record, 3), r->other + word(field, 1), key_len));
+        }
+        HOLDS(same(out + word(record, 5), r->other + word(field, 3), word(field, 4)));
+    }
+    free(records);
+}
+
+/* An edit that is accepted changes the one value. */
+static void hold_edit(const struct request *r, const uint8_t *out, size_t out_len, uint64_t len) {
+    uint64_t entries, before;
+    uint8_t *records = hold_output(r, out, out_len, len, &entries);
+    uint8_t *old = listed(r->format, r->edition, r->first, r->first_len, &before);
+    HOLDS(old != NULL && before == entries && r->n < entries);
+    hold_alike(r->first, old, out, records, entries, r->n);
+    const uint8_t *record = records + r->n * RECORD;
+    HOLDS(word(record, 6) == r->other_len);
+    HOLDS(same(out + word(record, 5), r->other, r->other_len));
+    /* What edition 2 accepted, it still accepts. */
+    if (refusal(boardid_check(r->format, 2, r->first, r->first_len)) == 0) {
+        HOLDS(refusal(boardid_check(r->format, 2, out, len)) == 0);
+    }
+    free(records);
+    free(old);
+}
+
+/* How much memory is lent to be written, by the number of a mode and what just suffices. */
+static size_t room_of(unsigned mode, size_t enough) {
+    switch (mode) {
+    case 0: return enough;
+    case 1: return enough > 0 ? enough - 1 : 0;
+    case 2: return 0;
+    case 3: return enough + 1;
+    case 4: return enough + 63;
+    case 5: return enough + 64;
+    case 6: return LONGEST;
+    default: return LONGEST + 1;
+    }
+}
+
+/* Gives an image right checks, so that more than the check is reached. */
+static void seal(uint32_t format, uint8_t *image, size_t len) {
+    if (format == 1) {
+        size_t at = 4;
+        while (at + 4 <= len && image[at] != 250) at += 2 + (size_t)image[at + 1];
+        if (at + 4 > len) return;
+        uint16_t check = 0x1D0F;
+        for (size_t i = 0; i < at; i++) {
+            check ^= (uint16_t)(image[i] << 8);
+            for (int bit = 0; bit < 8; bit++) {
+                check = (uint16_t)(check << 1 ^ (check >> 15) * 0x1021);
+            }
+        }
+        image[at + 2] = (uint8_t)(check >> 8);
+        image[at + 3] = (uint8_t)check;
+    } else if (format == 3 && len > 2 && image[2] >= 4 && image[2] <= len) {
+        uint8_t check = 0;
+        for (size_t i = 0; i + 1 < image[2]; i++) {
+            check ^= image[i];
+            for (int bit = 0; bit < 8; bit++) check = (uint8_t)(check << 1 ^ (check >> 7) * 0x07);
+        }
+        image[image[2] - 1] = check;
+    }
+}
+
+int LLVMFuzzerTestOneInput(const uint8_t *data, size_t size) {
+    if (size < 7) return 0;
+    if (arenas[0] == NULL) make_arenas();
+
+    struct request r = {
+        .call = data[0] % 8,
+        .format = FORMATS[data[1] % 8],
+        .edition = EDITIONS[data[2] % 8],
+        .n = data[3] < 0xF0 ? data[3] : NUMBERS[data[3] - 0xF0],
+        .room_mode = data[4] % 8,
+        .cut = data[4] >> 4,
+    };
+    size_t rest = size - 7;
+    r.other_len = data[5] | (size_t)data[6] << 8;
+    if (r.other_len > rest) r.other_len = rest;
+    r.other = data + 7;
+    r.first_len = rest - r.other_len;
+    uint8_t *first = malloc(r.first_len + 1);
+    memcpy(first, r.other + r.other_len, r.first_len);
+    if ((data[4] & 8) != 0 && r.call != WRITE) seal(r.format, first, r.first_len);
+    r.first = first;
+
+    /* What just suffices is a list's count, one record, or what a roomy output shows. */
+    size_t enough = 0;
+    uint8_t *out = malloc(LONGEST + 64);
+    if (r.call == LIST) {
+        uint64_t answer = boardid_check(r.format, r.edition, r.first, r.first_len);
+        enough = refusal(answer) == 0 ? count(answer) * RECORD : RECORD;
+    } else if (r.call == ENTRY || r.call == STEP) {
+        enough = RECORD;
+    } else if (r.call == WRITE || r.call == EDIT) {
+        uint64_t answer = make(&r, out, LONGEST);
+        enough = refusal(answer) == 0 ? count(answer) : 64;
+        if (refusal(answer) == 0 && r.call == WRITE) hold_write(&r, out, LONGEST, enough);
+        if (refusal(answer) == 0 && r.call == EDIT) hold_edit(&r, out, LONGEST, enough);
+    }
+    size_t room = room_of(r.room_mode, enough);
+    free(out);
+    out = malloc(room + 1);
+    uint64_t answer = make(&r, out, room);
+    switch (r.call) {
+    case VALUE:
+    case STRING:
+        if (refusal(answer) == 0) {
+            HOLDS((answer & UINT32_MAX) + count(answer) <= r.first_len);
+        }
+        break;
+    case WRITE:
+        if (refusal(answer) == 0) hold_write(&r, out, room, count(answer));
+        break;
+    case EDIT:
+        if (refusal(answer) == 0) hold_edit(&r, out, room, count(answer));
+        break;
+    default: break;
+    }
+    if (r.call != WRITE) hold_image(&r);
+    free(out);
+    free(first);
+    return 0;
+}
+
+#ifdef REPLAY
+/* Runs the inputs that are named, once each, without libFuzzer. */
+int main(int argc, char **argv) {
+    static uint8_t data[1 << 17];
+    for (int i = 1; i < argc; i++) {
+        FILE *file = fopen(argv[i], "rb");
+        HOLDS(file != NULL);
+        size_t size = fread(data, 1, sizeof data, file);
+        fclose(file);
+        LLVMFuzzerTestOneInput(data, size);
+    }
+    printf("replay: %d inputs\n", argc - 1);
+    return 0;
+}
+#endif
