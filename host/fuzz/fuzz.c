@@ -407,17 +407,18 @@ int LLVMFuzzerTestOneInput(const uint8_t *data, size_t size) {
 
     /* What just suffices is a list's count, one record, or what a roomy output shows. */
     size_t enough = 0;
-    uint8_t *out = malloc(LONGEST + 64);
+    size_t roomy = 2 * rest + 512 < LONGEST ? 2 * rest + 512 : LONGEST;
+    uint8_t *out = malloc(roomy);
     if (r.call == LIST) {
         uint64_t answer = boardid_check(r.format, r.edition, r.first, r.first_len);
         enough = refusal(answer) == 0 ? count(answer) * RECORD : RECORD;
     } else if (r.call == ENTRY || r.call == STEP) {
         enough = RECORD;
     } else if (r.call == WRITE || r.call == EDIT) {
-        uint64_t answer = make(&r, out, LONGEST);
+        uint64_t answer = make(&r, out, roomy);
         enough = refusal(answer) == 0 ? count(answer) : 64;
-        if (refusal(answer) == 0 && r.call == WRITE) hold_write(&r, out, LONGEST, enough);
-        if (refusal(answer) == 0 && r.call == EDIT) hold_edit(&r, out, LONGEST, enough);
+        if (refusal(answer) == 0 && r.call == WRITE) hold_write(&r, out, roomy, enough);
+        if (refusal(answer) == 0 && r.call == EDIT) hold_edit(&r, out, roomy, enough);
     }
     size_t room = room_of(r.room_mode, enough);
     free(out);

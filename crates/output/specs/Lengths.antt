@@ -7,6 +7,7 @@ use lib.ListN.{length}
 use lib.Dec.{leb}
 use Rattle.layout.specs.Bytes.{if}
 use Rattle.layout.specs.Shape.{Shape}
+use Rattle.layout.specs.Read.{limit}
 
 -- longer than any output
 abbrev pub tooLong : ℕ
@@ -23,3 +24,7 @@ sealedLength S n = length (S .header n) + n + (length (S .closing) + length (S .
 -- such an image fits its format and an output of so many bytes
 unfoldable pub fitsIn : Shape → ℕ → ℕ → Bool
 fitsIn S n room = leb (sealedLength S n) (S .most) && leb (sealedLength S n) room
+
+-- n bytes from place a on lie in an output of so many bytes, which is not too long
+unfoldable pub hasRoom : (room a n : ℕ) → Bool
+hasRoom room a n = leb room limit && leb (a + n) room

@@ -10,7 +10,6 @@ use Rattle.layout.specs.declared.Format.{Format}
 use Rattle.layout.specs.declared.Format.the-variants.{Tiny}
 use Rattle.layout.specs.declared.Frame.{Frame}
 use Rattle.layout.specs.declared.Next.the-variants.{Framed, Ended, Broken}
-use Rattle.layout.specs.declared.Entry.{Entry}
 use Rattle.layout.specs.declared.Lookup.the-variants.{Found, Missing}
 use Rattle.layout.specs.Bytes.{part, refusal}
 use Rattle.layout.specs.Shape.{Shape, next}

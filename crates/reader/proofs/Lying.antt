@@ -1,11 +1,11 @@
 -- A frame that is read lies in the image, and the bytes of its value are those at its record's place.
 -- Assumes nothing.
 use Prim.Native.Nat.{ℕ, _+_, _-_, _≤_, _<_}
-use mathlib.Core.Path.{_≡_, refl, ap, sym, _∙_}
+use mathlib.Core.Path.{_≡_, sym}
 use mathlib.Core.List.{List}
 use mathlib.Core.Bool.{Bool}
 use native.Mathlib.Omega.{arith}
-use lib.ListN.{length, take, drop, length-take, length-drop}
+use lib.ListN.{take, drop, length-take, length-drop}
 use lib.Seq.{take-take}
 use Rattle.layout.specs.declared.Format.{Format}
 use Rattle.layout.specs.declared.Frame.{Frame}

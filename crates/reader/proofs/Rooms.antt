@@ -25,7 +25,7 @@ use Rattle.layout.specs.Editions.{shape, chosen}
 use Rattle.layout.specs.Walk.{Raw, flat, Walked, done, stop, walk}
 use Rattle.layout.specs.Read.{limit, sealed, checkPlace, Judged, fine, faulty, judge, complete, codesOf, Read, accepted, refused, bad, readComplete, readWalked, readOpened, readAs, readImage}
 use Rattle.layout.specs.Calls.{nth, entriesOf, foundBy, entryAt}
-use Rattle.laws.specs.Grammar.{Grammar, grammar}
+use Rattle.laws.specs.Grammar.{Grammar}
 use Rattle.laws.specs.Passes.{walked}
 use Rattle.laws.proofs.Choices.{either, both, OnOpened}
 use Rattle.laws.proofs.Format.{Laws}

@@ -255,15 +255,15 @@ fn string_in(pool: &[u8], place: usize, number: usize) -> Located
     requires { ⌜ place + length (now pool) ≤ 65536 ⌝ }
     ensures { λ r. ⌜ r ≡ stringIn (now (pool .entry)) place 0 number ⌝ }
 {
-    let mut left = number;
+    let mut skip = number;
     let mut first: usize = 0;
     let mut i: usize = 0;
     while i < pool.len() {
         if 0x80 <= pool[i] {
-            if left == 0 {
+            if skip == 0 {
                 return Located::At(part_at(place + first, i + 1 - first));
             }
-            left -= 1;
+            skip -= 1;
             first = i + 1;
         }
         i += 1;

@@ -1,7 +1,7 @@
 -- `reader::entry_at` meets its contract: entry n of an image that is taken, whose walk came to its end.
 -- Assumes nothing.
 use borrow.Author.Needs.{needs}
-use mathlib.Core.Path.{_≡_, ap, sym, _∙_}
+use mathlib.Core.Path.{ap, sym, _∙_}
 use denote.Ref.{now}
 use Rattle.layout.specs.Editions.{shape}
 use Rattle.layout.specs.Walk.{Walked}

@@ -1,7 +1,6 @@
 -- `reader::entry_of` meets its contract, field by field.
 -- Assumes nothing.
 use borrow.Author.Needs.{needs}
-use mathlib.Core.Path.{_≡_}
 use denote.Ref.{now}
 use Rattle.layout.specs.Bytes.{part}
 use Rattle.layout.specs.Calls.{entryOf}

@@ -1,7 +1,6 @@
 -- `reader::located_bytes` meets its contract: the part that was located, and nothing where it is refused.
 -- Assumes nothing.
 use borrow.Author.Needs.{needs}
-use mathlib.Core.Path.{_≡_}
 use Rattle.reader.proofs.located_bytes.Statement.{statement}
 use Rattle.reader.proofs.located_bytes.Tie as tie
 

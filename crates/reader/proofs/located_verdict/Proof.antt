@@ -1,7 +1,6 @@
 -- `reader::located_verdict` meets its contract: zeros for a part, and else the refusal.
 -- Assumes nothing.
 use borrow.Author.Needs.{needs}
-use mathlib.Core.Path.{_≡_}
 use Rattle.reader.proofs.located_verdict.Statement.{statement}
 use Rattle.reader.proofs.located_verdict.Tie as tie
 

@@ -1,9 +1,9 @@
--- `reader::string_in` meets its contract. The loop's invariant: the string that is sought is the one of number `left` from byte i on, where `first` is the first byte of the string
+-- `reader::string_in` meets its contract. The loop's invariant: the string that is sought is the one of number `skip` from byte i on, where `first` is the first byte of the string
 -- that i is in. The measure is what is left of the pool.
 -- Assumes nothing.
 use borrow.Author.Needs.{needs}
-use Prim.Native.Nat.{ℕ, _+_, _-_, _≤_, _<_}
-use mathlib.Core.Path.{_≡_, refl, ap, sym, _∙_}
+use Prim.Native.Nat.{ℕ, _-_, _≤_, _<_}
+use mathlib.Core.Path.{_≡_, ap, sym, _∙_}
 use mathlib.Core.Logic.{⊎-elim}
 use native.Mathlib.Omega.{arith}
 use native.Mathlib.Nat.{add-zero}
@@ -15,10 +15,10 @@ use Rattle.reader.proofs.string_in.Statement.{statement}
 use Rattle.reader.proofs.string_in.Tie as tie
 
 abbrev Inv-loop : tie.InvT-loop
-Inv-loop pool place number left₀ first₀ i₀ left first i = (first ≤ i) × (i ≤ length pool) × (stringIn pool place 0 number ≡ stringFrom pool place first i left)
+Inv-loop pool place number skip₀ first₀ i₀ skip first i = (first ≤ i) × (i ≤ length pool) × (stringIn pool place 0 number ≡ stringFrom pool place first i skip)
 
 abbrev μ-loop : tie.MeasureT-loop
-μ-loop pool place number left₀ first₀ i₀ left first i = length pool - i
+μ-loop pool place number skip₀ first₀ i₀ skip first i = length pool - i
 
 loop-holds : tie.Need-loop-holds Inv-loop μ-loop
 loop-holds c =
@@ -46,10 +46,10 @@ returns c =
     let s = now (a .pool) in
     let l = c .before .before .before .before .before .loop in
     rw (c .part-at .ensures)
-    (sym (l .inv .2 ∙ string-ends s (a .place) (l .first) (l .i) (l .left) (l .inv .0) (c .before .before .before .before .loop-test .taken) (c .before .before .if1 .taken) (c .before .if2 .taken)))
+    (sym (l .inv .2 ∙ string-ends s (a .place) (l .first) (l .i) (l .skip) (l .inv .0) (c .before .before .before .before .loop-test .taken) (c .before .before .if1 .taken) (c .before .if2 .taken)))
 
-sub-left : tie.Need-sub-left Inv-loop μ-loop
-sub-left c = search needs
+sub-skip : tie.Need-sub-skip Inv-loop μ-loop
+sub-skip c = search needs
 
 add-first : tie.Need-add-first Inv-loop μ-loop
 add-first c = search needs
@@ -67,12 +67,12 @@ loop-again c =
     let l = c .before .before .before .loop in
     ⊎-elim
     (λ w.
-    let low : 128 ≤ getD s (l .i) 0 = w .0 .taken in
-    let same = l .inv .2 ∙ string-passes s (a .place) (l .first) (l .i) (l .left) (l .inv .0) (c .before .before .loop-test .taken) low (omega (arith, w .1 .left)) in
+    let high : 128 ≤ getD s (l .i) 0 = w .0 .taken in
+    let same = l .inv .2 ∙ string-passes s (a .place) (l .first) (l .i) (l .skip) (l .inv .0) (c .before .before .loop-test .taken) high (omega (arith, w .1 .left)) in
     (omega (arith, w .3), omega arith, rw (w .2, w .3) same))
     (λ w.
     let low : getD s (l .i) 0 < 128 = w .0 .left in
-    let same = l .inv .2 ∙ string-goes s (a .place) (l .first) (l .i) (l .left) (l .inv .0) (c .before .before .loop-test .taken) low in
+    let same = l .inv .2 ∙ string-goes s (a .place) (l .first) (l .i) (l .skip) (l .inv .0) (c .before .before .loop-test .taken) low in
     (omega (arith, w .2), omega arith, rw (w .1, w .2) same))
     (c .if1 .came)
 
@@ -84,7 +84,7 @@ returns-2 c =
     let a = c .before .before .before .before .args in
     let s = now (a .pool) in
     let l = c .before .before .loop in
-    rw (c .refusal .ensures) (sym (l .inv .2 ∙ string-over s (a .place) (l .first) (l .i) (l .left) (l .inv .0) (c .before .loop-test .left)))
+    rw (c .refusal .ensures) (sym (l .inv .2 ∙ string-over s (a .place) (l .first) (l .i) (l .skip) (l .inv .0) (c .before .loop-test .left)))
 
 pub string-in-spec : {M : Type 1} → statement M
 string-in-spec =
@@ -99,7 +99,7 @@ string-in-spec =
     sub-part-at
     part-at-requires
     returns
-    sub-left
+    sub-skip
     add-first
     add-i
     loop-less

@@ -1,7 +1,7 @@
 -- `reader::string_part` meets its contract: format number 3 is Tiny, and the walk of an image that is taken came to its end.
 -- Assumes nothing.
 use borrow.Author.Needs.{needs}
-use mathlib.Core.Path.{_≡_, ap, sym, _∙_}
+use mathlib.Core.Path.{ap, sym, _∙_}
 use denote.Ref.{now}
 use borrow.Author.Tests.{eq-eqb, ne-eqb}
 use Rattle.layout.specs.Walk.{Walked}

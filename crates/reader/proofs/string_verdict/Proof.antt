@@ -1,7 +1,7 @@
 -- `reader::string_verdict` meets its contract: number and place of the call that gives the string.
 -- Assumes nothing.
 use borrow.Author.Needs.{needs}
-use mathlib.Core.Path.{_≡_, ap, _∙_}
+use mathlib.Core.Path.{ap, _∙_}
 use Rattle.layout.specs.declared.Located.{Located}
 use Rattle.layout.specs.Calls.{verdict}
 use Rattle.reader.proofs.string_verdict.Statement.{statement}

@@ -1,7 +1,7 @@
 -- `reader::value_at` meets its contract: the bytes of the part that is the value of entry n.
 -- Assumes nothing.
 use borrow.Author.Needs.{needs}
-use mathlib.Core.Path.{_≡_, ap, _∙_}
+use mathlib.Core.Path.{ap, _∙_}
 use denote.Ref.{now}
 use Rattle.layout.specs.declared.Located.{Located}
 use Rattle.layout.specs.Calls.{bytesAt}

@@ -1,7 +1,6 @@
 -- `reader::Walk::step` meets its contract: a step answers as entry n, and n of an entry that is found is small.
 -- Assumes nothing.
 use borrow.Author.Needs.{needs}
-use Prim.Native.Nat.{_<_}
 use mathlib.Core.Path.{_≡_, sym, _∙_}
 use native.Mathlib.Omega.{arith}
 use denote.Ref.{now}

@@ -1,0 +1,4 @@
+pub mod Lengths
+pub mod Overlay
+pub mod Rooms
+pub mod Sealing
