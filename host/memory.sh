@@ -3,6 +3,7 @@
 # INPUTS is a number of each format (default 1000). A byte read or written outside what was lent, or a jump on a
 # value that was never set, fails the run. The folder of libboardid.a is BOARDID_LIB, else target/staticlib of the repository.
 set -euo pipefail
+[ -z "${BOARDID_LIB:-}" ] || { BOARDID_LIB=$(realpath "$BOARDID_LIB") && export BOARDID_LIB; }
 cd "$(dirname "$0")/compare"
 command -v valgrind >/dev/null || { echo "memory: needs valgrind"; exit 1; }
 mkdir -p target

@@ -3,10 +3,11 @@
 # Prints one line for each; exit status 0 only where both passed. The folder of libboardid.a is BOARDID_LIB, else
 # target/staticlib of the repository, where `rt staticlib boardid` puts it.
 set -uo pipefail
+[ -z "${BOARDID_LIB:-}" ] || { BOARDID_LIB=$(realpath "$BOARDID_LIB") && export BOARDID_LIB; }
 cd "$(dirname "$0")"
 failed=0
 
-# Runs a command in a folder. Its last line is the summary; where it fails, its first lines, cut, come before.
+# Runs a command in a folder and prints its summary. Where it fails, what it said last comes before, cut.
 run() {
     local folder=$1 log=$1/target/run.log
     shift
@@ -15,7 +16,7 @@ run() {
         echo "$folder: $(summary "$log")"
     else
         failed=1
-        grep -v '^$' "$log" | cut -c 1-400 | tail -n 20
+        sed '/^first difference/,$!d' "$log" | grep . | cut -c 1-300 || tail -n 12 "$log" | cut -c 1-300
         echo "$folder: FAILED, log in host/$log"
     fi
 }

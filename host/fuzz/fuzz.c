@@ -274,6 +274,8 @@ static void hold_image(const struct request *r) {
         HOLDS((uint64_t)word(record, 3) + word(record, 4) <= word(record, 5));
         end = (uint64_t)word(record, 5) + word(record, 6);
         HOLDS(end <= r->first_len);
+        HOLDS(word(record, 1) == 0 || word(record, 1) == r->format * 256 + word(record, 0));
+        HOLDS(word(record, 7) == 0);
         /* One by one is as slow as it sounds: a few are enough. */
         if (i < 8 || i + 2 > entries) {
             uint8_t one[RECORD];

@@ -4,6 +4,7 @@
 # The folder of libboardid.a is BOARDID_LIB, else target/staticlib of the repository. What is found is kept in
 # host/fuzz/target: new inputs in found/, an input that stopped the program beside the log.
 set -euo pipefail
+[ -z "${BOARDID_LIB:-}" ] || { BOARDID_LIB=$(realpath "$BOARDID_LIB") && export BOARDID_LIB; }
 cd "$(dirname "$0")"
 lib=${BOARDID_LIB:-../../target/staticlib}/libboardid.a
 [ -f "$lib" ] || { echo "fuzz: there is no $lib: run rt staticlib boardid"; exit 1; }

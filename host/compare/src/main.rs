@@ -9,19 +9,10 @@
 
 mod call;
 mod cases;
-mod checks;
 mod comparison;
 mod crash;
-mod damage;
-mod fboss;
-mod fields;
-mod generate;
-mod image;
 mod lent;
 mod plan;
-mod random;
-mod tiny;
-mod vpd;
 
 use std::process::ExitCode;
 use std::sync::atomic::{AtomicUsize, Ordering};
@@ -32,9 +23,10 @@ use std::time::{Duration, Instant};
 use cases::GROUPS;
 use comparison::{Comparison, Tally};
 use crash::Input;
-use image::{Format, FORMATS};
+use images::image::{Format, FORMATS};
+use images::random::Random;
+use images::{damage, fields, generate};
 use lent::Layout;
-use random::Random;
 
 /// How many inputs of one format a thread takes at a time.
 const CHUNK: u64 = 32;

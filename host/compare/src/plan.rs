@@ -1,10 +1,11 @@
 //! Which calls are made on an image or a field list.
 
+use images::generate::offered;
+use images::image::{Format, LONGEST};
+use images::random::Random;
+
 use crate::call::{count, refusal, walk_bytes, Call};
 use crate::comparison::{Comparison, RECORD};
-use crate::generate::offered;
-use crate::image::{Format, LONGEST};
-use crate::random::Random;
 
 /// Formats and editions that are none, beside those that are.
 const FORMATS: [u32; 10] = [0, 1, 2, 3, 4, 5, 257, 258, 259, u32::MAX];
@@ -65,7 +66,11 @@ fn on_accepted(
     compare.call(&check.value(entries as u64));
     strings(compare, random, check);
     walk(compare, random, check, 0);
-    for n in (0..entries).rev().take(8) {
+    let edited = match random.below(3) {
+        0 => entries,
+        _ => 6,
+    };
+    for n in (first..entries).chain(0..first).take(edited) {
         edits(compare, random, format, check, n);
     }
     let n = number(random, entries);
@@ -104,7 +109,7 @@ fn lists(compare: &mut Comparison, random: &mut Random, check: &Call, entries: u
 /// Strings from 0 to one past the last, and some other number.
 fn strings(compare: &mut Comparison, random: &mut Random, check: &Call) {
     let mut number = 0;
-    while refusal(compare.call(&check.string(number)).0) == 0 && number < 6 {
+    while refusal(compare.call(&check.string(number)).0) == 0 {
         number += 1;
     }
     compare.call(&check.string(self::number(random, number as usize)));

@@ -1,11 +1,12 @@
 //! The examples of DECISIONS.
 
+use images::fields::List;
+use images::image::{Entry, Format, Image, LONGEST};
+use images::random::Random;
+use images::{fboss, tiny, vpd};
+
 use super::scope::SKU;
 use super::*;
-use crate::fields::List;
-use crate::image::{Entry, Format, Image, LONGEST};
-use crate::random::Random;
-use crate::{fboss, tiny, vpd};
 
 /// DECISIONS, D1, D4 to D7 and D14 to D20.
 pub fn on_reading(compare: &mut Comparison) {
@@ -462,7 +463,7 @@ pub fn largest_images(compare: &mut Comparison) {
         (11_606, LONGEST, refused(12, 0)),
     ] {
         compare.next_case();
-        let mut list = List::new();
+        let mut list = List::default();
         for number in 0..count {
             list.add(1, &vpd::numbered_key(number), &[]);
         }
@@ -477,7 +478,7 @@ pub fn largest_images(compare: &mut Comparison) {
 
     // A field's number that needs more than 16 bits.
     compare.next_case();
-    let mut list = List::new();
+    let mut list = List::default();
     for number in 0..70_000 {
         list.add(1, &vpd::numbered_key(number), &[]);
     }

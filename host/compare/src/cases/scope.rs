@@ -1,7 +1,8 @@
 //! The cases of 01: both sides of each line, and every named tag of Tiny.
 
+use images::image::{Entry, Format, Image, LONGEST};
+
 use super::*;
-use crate::image::{Entry, Format, Image, LONGEST};
 
 /// The one entry of this image has the key "SKU" and the value "A7".
 pub const SKU: &str = "01 03 53 4B 55 02 41 37 00";

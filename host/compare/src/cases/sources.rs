@@ -1,9 +1,10 @@
 //! The examples and reference values of the source documents 000 and 002.
 
+use images::checks::check16;
+use images::fields::List;
+use images::image::FBOSS_HEADER;
+
 use super::*;
-use crate::checks::check16;
-use crate::fields::List;
-use crate::image::FBOSS_HEADER;
 
 /// 000, Checksum: each reference value is that of a part of an image, so that the image is accepted
 /// only where the check of that part has the value.
@@ -115,7 +116,7 @@ pub fn fboss_example(compare: &mut Comparison) {
     let short = fboss_example_image();
     let mut whole = short.clone();
     whole.resize(0x2000, 0xFF);
-    let mut fields = List::new();
+    let mut fields = List::default();
     let mut place = 4;
     for (code, (length, _)) in (1..).zip(FBOSS_EXAMPLE) {
         let value = &short[place + 2..][..length as usize];
@@ -178,7 +179,7 @@ pub fn vpd_example(compare: &mut Comparison) {
         record(&[1, 513, 23, 25, 7, 33, 14]),
         record(&[1, 513, 47, 49, 12, 62, 6]),
     ];
-    let mut fields = List::new();
+    let mut fields = List::default();
     fields.add(1, b"UUID", b"0123456789ABCDEF");
     fields.add(1, b"3G_IMEI", b"AABBBBBB-CC-DD");
     fields.add(1, b"ethernet_mac", b"\x2A\x02\x03\xB3\xD5\x7C");

@@ -1,13 +1,14 @@
 //! Sweeps over small images: every format, every length, every byte, every code.
 
+use images::fields::List;
+use images::generate::{kept, named};
+use images::image::{seal, Entry, Format, Image, FORMATS, LONGEST};
+use images::random::Random;
+
 use super::scope::every_tag_image;
 use super::sources::{fboss_example_image, vpd_example_image};
 use super::*;
-use crate::fields::List;
-use crate::generate::{kept, named};
-use crate::image::{seal, Entry, Format, Image, FORMATS, LONGEST};
 use crate::plan;
-use crate::random::Random;
 
 /// The three small images of the sweeps.
 fn small_images() -> [(Format, Vec<u8>); 3] {
@@ -23,7 +24,7 @@ fn small_images() -> [(Format, Vec<u8>); 3] {
 
 /// All eight calls with every format and edition, known or not, on images of every format.
 pub fn every_format_and_edition(compare: &mut Comparison) {
-    let mut fields = List::new();
+    let mut fields = List::default();
     fields.add(1, b"SKU", b"A7");
     let field_bytes = fields.bytes();
     for (_, image) in small_images() {
@@ -152,7 +153,7 @@ pub fn codes_of_fields(compare: &mut Comparison) {
             for code in 0..=300 {
                 compare.next_case();
                 let mut random = Random::of_input(0, format.number(), u64::from(code));
-                let mut list = List::new();
+                let mut list = List::default();
                 if format == Format::Fboss {
                     for required in named(format, 1) {
                         if u32::from(required) != code {
@@ -172,7 +173,7 @@ pub fn codes_of_fields(compare: &mut Comparison) {
                     3_000,
                 ));
                 for length in 0..=16 {
-                    let mut list = List::new();
+                    let mut list = List::default();
                     list.add(code, b"key", &vec![b'0'; length]);
                     compare.call(&Call::write(
                         number,
@@ -207,7 +208,7 @@ pub fn places_of_long_parts(compare: &mut Comparison) {
             let entries = [first, second].map(|key| Entry::with_key(1, key.clone(), Vec::new()));
             let image = Image::new(Format::Vpd, entries.to_vec()).bytes();
             compare.call(&Call::check(VPD, 2, &image));
-            let mut list = List::new();
+            let mut list = List::default();
             list.add(1, first, b"");
             list.add(1, second, b"");
             compare.call(&Call::write(

@@ -1,4 +1,4 @@
-//! Damage: what chips, cables and careless tools do to an image.
+//! Damaged images: wrong entries, wrong bytes, and bytes that are no image at all.
 
 use crate::generate::{broken, kept};
 use crate::image::{seal, Entry, Format, Image, FBOSS_END, POOL, VPD_INFO, VPD_STRING};

@@ -14,6 +14,7 @@ const KEY: usize = 1;
 const VALUE: usize = 3;
 
 /// A field list and the values in which its parts lie.
+#[derive(Default)]
 pub struct List {
     fields: Vec<Field>,
     pub values: Vec<u8>,
@@ -22,14 +23,6 @@ pub struct List {
 }
 
 impl List {
-    pub fn new() -> List {
-        List {
-            fields: Vec::new(),
-            values: Vec::new(),
-            cut: Vec::new(),
-        }
-    }
-
     /// Adds a field whose parts are put at the end of the values.
     pub fn add(&mut self, code: u32, key: &[u8], value: &[u8]) {
         let key = self.part(key);
@@ -54,7 +47,7 @@ impl List {
 
 /// A list for an edition, with up to three things wrong in most.
 pub fn list(random: &mut Random, format: Format, edition: u32) -> List {
-    let mut list = List::new();
+    let mut list = List::default();
     let mut codes = codes(random, format, edition);
     if random.once_in(3) {
         random.shuffle(&mut codes);
@@ -220,7 +213,7 @@ fn spoil(random: &mut Random, format: Format, list: &mut List) {
 
 /// A list whose image has thousands of bytes, or more than an output may have.
 pub fn large(random: &mut Random, format: Format) -> List {
-    let mut list = List::new();
+    let mut list = List::default();
     match format {
         Format::Fboss => {
             for code in named(format, 2) {

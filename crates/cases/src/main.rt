@@ -1,0 +1,236 @@
+// Runs the cases that 01 marks Run, as far as reading goes, and 000's full example: a line for each, "ok" or "WRONG".
+use layout::Checked;
+use layout::Entry;
+use layout::Lookup;
+use layout::Refusal;
+use layout::StringNumber;
+
+fn say(name: &[u8], is_right: bool) {
+    io::write_all(1, name);
+    if is_right {
+        io::write_all(1, b": ok\n");
+    } else {
+        io::write_all(1, b": WRONG\n");
+    }
+}
+
+fn is_refusal(r: Refusal, number: u32, place: usize) -> bool {
+    let p = r.place;
+    (r.number == number) & (p.0 == place)
+}
+
+// Whether an image is accepted with so many entries.
+fn has_count(format: u32, edition: u32, image: &[u8], count: usize) -> bool {
+    let c = reader::check_image(format, edition, image);
+    match c {
+        Checked::Accepted(n) => n == count,
+        Checked::Refused(_) => false,
+    }
+}
+
+// Whether an image is refused so.
+fn is_refused(format: u32, edition: u32, image: &[u8], number: u32, place: usize) -> bool {
+    let c = reader::check_image(format, edition, image);
+    match c {
+        Checked::Accepted(_) => false,
+        Checked::Refused(r) => is_refusal(r, number, place),
+    }
+}
+
+// The same, for an image of no bytes.
+fn is_empty_refused(format: u32, edition: u32, image: &[u8], number: u32, place: usize) -> bool {
+    is_refused(format, edition, &image[..0], number, place)
+}
+
+fn check_of_many() -> bool {
+    let text = [65u8; 256];
+    crc::check16(&text) == 0xE938
+}
+
+// Code, kind and key of an entry.
+fn is_entry(image: &[u8], e: Entry, code: u32, kind: u32, key: &[u8]) -> bool {
+    let part = e.key;
+    let place = part.place;
+    let found = frames::part_of(image, place.0, part.len);
+    (e.code == code) & (e.kind == kind) & parts::same_bytes(found, key)
+}
+
+// Whether entry n has this code, kind and key.
+fn has_head(
+    format: u32,
+    edition: u32,
+    image: &[u8],
+    n: usize,
+    code: u32,
+    kind: u32,
+    key: &[u8],
+) -> bool {
+    let x = reader::entry_at(format, edition, image, n);
+    match x {
+        Lookup::Found(e) => is_entry(image, e, code, kind, key),
+        Lookup::Missing(_) => false,
+    }
+}
+
+// Whether entry n has this value.
+fn has_value(format: u32, edition: u32, image: &[u8], n: usize, value: &[u8]) -> bool {
+    let found = reader::value_at(format, edition, image, n);
+    let verdict = reader::value_verdict(format, edition, image, n);
+    is_refusal(verdict, 0, 0) & parts::same_bytes(found, value)
+}
+
+// Whether entry n of a VPD image is a string of this key and value.
+fn has_pair(image: &[u8], n: usize, key: &[u8], value: &[u8]) -> bool {
+    has_head(2, 2, image, n, 1, 513, key) & has_value(2, 2, image, n, value)
+}
+
+// The kind of an FBOSS entry of a code up to 20.
+fn fboss_kind(edition: u32, code: u32) -> u32 {
+    if (edition == 1) & (16 < code) {
+        return 0;
+    }
+    if code <= 20 {
+        return 256 + code;
+    }
+    0
+}
+
+// Whether entry n of an FBOSS image has this code and value.
+fn has_field(edition: u32, image: &[u8], n: usize, code: u32, value: &[u8]) -> bool {
+    has_head(
+        1,
+        edition,
+        image,
+        n,
+        code,
+        fboss_kind(edition, code),
+        &value[..0],
+    )
+        & has_value(1, edition, image, n, value)
+}
+
+fn first_fields(edition: u32, image: &[u8]) -> bool {
+    has_field(edition, image, 0, 1, b"FIRST_SQUEEZE")
+        & has_field(edition, image, 1, 2, b"20123456")
+        & has_field(edition, image, 2, 3, b"SYSA1234")
+        & has_field(edition, image, 3, 4, b"PCBA1234567 ")
+        & has_field(edition, image, 4, 5, b"PCB12345678 ")
+}
+
+fn second_fields(edition: u32, image: &[u8]) -> bool {
+    has_field(edition, image, 5, 6, b"MYODM1234567")
+        & has_field(edition, image, 6, 7, b"OS123456789AB")
+        & has_field(edition, image, 7, 8, b"\x01")
+        & has_field(edition, image, 8, 9, b"\x00")
+        & has_field(edition, image, 9, 10, b"\x01")
+}
+
+fn third_fields(edition: u32, image: &[u8]) -> bool {
+    has_field(edition, image, 10, 11, b"PS1234567890A")
+        & has_field(edition, image, 11, 12, b"UNA_MAS")
+        & has_field(edition, image, 12, 13, b"20130203")
+        & has_field(edition, image, 13, 14, b"TERZO")
+        & has_field(edition, image, 14, 15, b"JUICETORY")
+}
+
+fn last_fields(edition: u32, image: &[u8]) -> bool {
+    has_field(edition, image, 15, 16, b"BUDOKAN")
+        & has_field(edition, image, 16, 17, b"\x11\x22\x33\x44\x55\x66\x01\x02")
+        & has_field(edition, image, 17, 18, b"\x12\x34\x56\x78\x9A\xBC\x03\x04")
+        & has_field(edition, image, 18, 19, b"\x66\x55\x44\x33\x22\x11\x02\x00")
+        & has_field(edition, image, 19, 20, b"\xFE\xDC\xBA\x98\x76\x54\x00\x02")
+}
+
+// 000's full example, in its 20 entries.
+fn is_full(edition: u32, image: &[u8]) -> bool {
+    has_count(1, edition, image, 20)
+        & first_fields(edition, image)
+        & second_fields(edition, image)
+        & third_fields(edition, image)
+        & last_fields(edition, image)
+}
+
+// Copies text to the start of the image.
+fn copy_in(image: &mut [u8; 8192], text: &[u8]) {
+    let mut i = 0;
+    while i < text.len() {
+        if i < 8192 {
+            image[i] = text[i];
+        }
+        i += 1;
+    }
+}
+
+// The 8,192 bytes of the example's dump.
+fn fill_full(image: &mut [u8; 8192]) {
+    copy_in(
+        image,
+        b"\xFB\xFB\x05\xFF\x01\x0DFIRST_SQUEEZE\x02\x0820123456\x03\x08SYSA1234\x04\x0CPCBA1234567 \x05\x0CPCB12345678 \x06\x0CMYODM1234567\x07\x0DOS123456789AB\x08\x01\x01\x09\x01\x00\x0A\x01\x01\x0B\x0DPS1234567890A\x0C\x07UNA_MAS\x0D\x0820130203\x0E\x05TERZO\x0F\x09JUICETORY\x10\x07BUDOKAN\x11\x08\x11\x22\x33\x44\x55\x66\x01\x02\x12\x08\x12\x34\x56\x78\x9A\xBC\x03\x04\x13\x08\x66\x55\x44\x33\x22\x11\x02\x00\x14\x08\xFE\xDC\xBA\x98\x76\x54\x00\x02\xFA\x02\xD5\xC6",
+    );
+}
+
+fn run_full(image: &[u8; 8192]) {
+    say(b"full example, edition 2", is_full(2, image));
+    say(b"full example, edition 1", is_full(1, image));
+}
+
+// 002's encoding example.
+fn is_encoding(image: &[u8]) -> bool {
+    has_count(2, 2, image, 3)
+        & has_pair(image, 0, b"UUID", b"0123456789ABCDEF")
+        & has_pair(image, 1, b"3G_IMEI", b"AABBBBBB-CC-DD")
+        & has_pair(image, 2, b"ethernet_mac", b"\x2A\x02\x03\xB3\xD5\x7C")
+}
+
+fn is_sku(image: &[u8]) -> bool {
+    has_count(2, 2, image, 1) & has_pair(image, 0, b"SKU", b"A7")
+}
+
+// Whether a string of the pool is this one.
+fn has_string(image: &[u8], number: usize, text: &[u8]) -> bool {
+    let found = reader::string_at(3, 2, image, StringNumber(number));
+    let verdict = reader::string_verdict(3, 2, image, StringNumber(number));
+    is_refusal(verdict, 0, 0) & parts::same_bytes(found, text)
+}
+
+fn has_no_string(image: &[u8], number: usize) -> bool {
+    is_refusal(
+        reader::string_verdict(3, 2, image, StringNumber(number)),
+        15,
+        0,
+    )
+}
+
+// A Tiny image with a string number and a pool of two strings and an unfinished tail.
+fn run_pool(image: &[u8]) {
+    say(b"tiny with a pool", has_count(3, 2, image, 2));
+    say(b"string 0", has_string(image, 0, b"AB\xC3"));
+    say(b"string 1", has_string(image, 1, b"D\xC5"));
+    say(b"string 2, refused", has_no_string(image, 2));
+}
+
+fn run_ends() {
+    say(b"vpd of no bytes", is_empty_refused(2, 2, b"\x00", 5, 0));
+    say(b"vpd of 00", has_count(2, 2, b"\x00", 0));
+    say(b"vpd of FF", has_count(2, 2, b"\xFF", 0));
+}
+
+fn run_pairs() {
+    say(
+        b"encoding example",
+        is_encoding(
+            b"\x01\x04UUID\x100123456789ABCDEF\x01\x073G_IMEI\x0EAABBBBBB-CC-DD\x01\x0Cethernet_mac\x06\x2A\x02\x03\xB3\xD5\x7C\x00",
+        ),
+    );
+    say(b"sku", is_sku(b"\x01\x03SKU\x02A7\x00"));
+}
+
+fn main() {
+    say(b"check of 256 A", check_of_many());
+    run_ends();
+    let mut image = [0xFFu8; 8192];
+    fill_full(&mut image);
+    run_full(&image);
+    run_pairs();
+    run_pool(b"\x56\x02\x0E\x10\x00\x01\x06AB\xC3D\xC5F\x2F");
+}

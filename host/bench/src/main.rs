@@ -1,0 +1,238 @@
+//! Times the exports of libboardid.a against the second reader, call by call.
+//!
+//!     bench [--seconds N]
+//!
+//! Each row is timed for N seconds (default 0.5), library and second reader in turn, and gives the
+//! median time of a round. Buffers are made before the clock starts and are not cleared between calls.
+
+mod subjects;
+
+use std::hint::black_box;
+use std::process::ExitCode;
+use std::time::{Duration, Instant};
+
+use subjects::{Board, Subject};
+
+const RECORD: usize = 64;
+const EDITION: u32 = 2;
+
+/// A call on one board, into memory that is lent for it: the answer.
+type Call = fn(u32, &Board, &mut [u8]) -> u64;
+
+/// A row's call: its name, how much memory it is lent, and how library and second reader make it.
+struct Timed {
+    name: &'static str,
+    room: fn(&Board) -> usize,
+    library: Call,
+    second: Call,
+}
+
+// The pointers and lengths of the library's calls come from slices, and `out` overlaps none of them.
+const CALLS: [Timed; 5] = [
+    Timed {
+        name: "check",
+        room: |_| 0,
+        library: |format, board, _| {
+            let image = &board.image;
+            unsafe { exports::boardid_check(format, EDITION, image.as_ptr(), image.len()) }
+        },
+        second: |format, board, _| second::bytes::check(format, EDITION, &board.image),
+    },
+    Timed {
+        name: "list",
+        room: |board| board.entries * RECORD,
+        library: |format, board, out| {
+            let image = &board.image;
+            let (image, length) = (image.as_ptr(), image.len());
+            let (out, room) = (out.as_mut_ptr(), out.len());
+            unsafe { exports::boardid_list(format, EDITION, image, length, out, room) }
+        },
+        second: |format, board, out| second::bytes::list(format, EDITION, &board.image, out),
+    },
+    Timed {
+        name: "entry in the middle",
+        room: |_| RECORD,
+        library: |format, board, out| {
+            let (image, length) = (board.image.as_ptr(), board.image.len());
+            let (out, room) = (out.as_mut_ptr(), out.len());
+            let n = board.middle;
+            unsafe { exports::boardid_entry(format, EDITION, image, length, n, out, room) }
+        },
+        second: |format, board, out| {
+            second::bytes::entry(format, EDITION, &board.image, board.middle, out)
+        },
+    },
+    Timed {
+        name: "edit",
+        room: |board| board.image.len(),
+        library: |format, board, out| {
+            let (image, length) = (board.image.as_ptr(), board.image.len());
+            let (value, value_length) = (board.value.as_ptr(), board.value.len());
+            let (out, room) = (out.as_mut_ptr(), out.len());
+            let n = board.middle;
+            unsafe {
+                exports::boardid_edit(
+                    format,
+                    EDITION,
+                    image,
+                    length,
+                    n,
+                    value,
+                    value_length,
+                    out,
+                    room,
+                )
+            }
+        },
+        second: |format, board, out| {
+            let (image, value) = (&board.image, &board.value);
+            second::bytes::edit(format, EDITION, image, board.middle, value, out)
+        },
+    },
+    Timed {
+        name: "write",
+        room: |board| board.image.len(),
+        library: |format, board, out| {
+            let (fields, fields_length) = (board.fields.as_ptr(), board.fields.len());
+            let (values, values_length) = (board.values.as_ptr(), board.values.len());
+            let (out, room) = (out.as_mut_ptr(), out.len());
+            unsafe {
+                exports::boardid_write(
+                    format,
+                    EDITION,
+                    fields,
+                    fields_length,
+                    values,
+                    values_length,
+                    out,
+                    room,
+                )
+            }
+        },
+        second: |format, board, out| {
+            second::bytes::write(format, EDITION, &board.fields, &board.values, out)
+        },
+    },
+];
+
+fn main() -> ExitCode {
+    let words: Vec<String> = std::env::args().skip(1).collect();
+    let seconds = match &words[..] {
+        [] => Some(0.5),
+        [option, seconds] if option == "--seconds" => seconds.parse().ok(),
+        _ => None,
+    };
+    let Some(seconds) = seconds.filter(|&seconds: &f64| seconds > 0.0 && seconds < 3600.0) else {
+        eprintln!("usage: bench [--seconds N]");
+        return ExitCode::from(2);
+    };
+
+    println!("| image | entries | call | library | second | library/second |");
+    println!("|---|---:|---|---:|---:|---:|");
+    for subject in subjects::all() {
+        for timed in &CALLS {
+            let Some((library, second)) = row(&subject, timed, Duration::from_secs_f64(seconds))
+            else {
+                println!(
+                    "bench: {}, {}: refused or not alike",
+                    subject.name, timed.name
+                );
+                return ExitCode::FAILURE;
+            };
+            println!(
+                "| {} | {} | {} | {} | {} | {:.2} |",
+                subject.name,
+                subject.entries(),
+                timed.name,
+                shown(library),
+                shown(second),
+                library / second
+            );
+        }
+    }
+    println!("Medians of a round, both built for release; buffers are not cleared between calls.");
+    ExitCode::SUCCESS
+}
+
+/// The median times of a row, library and second reader, in seconds. Nothing where the two give
+/// different answers or leave different memory, or a call is refused.
+fn row(subject: &Subject, timed: &Timed, limit: Duration) -> Option<(f64, f64)> {
+    let format = subject.format.number();
+    let rooms = || -> Vec<Vec<u8>> {
+        let boards = subject.boards.iter();
+        boards.map(|board| vec![0; (timed.room)(board)]).collect()
+    };
+    let (mut of_library, mut of_second) = (rooms(), rooms());
+    for (board, (a, b)) in (subject.boards.iter()).zip(of_library.iter_mut().zip(&mut of_second)) {
+        let answer = (timed.library)(format, board, a);
+        if answer >> 59 != 0 || answer != (timed.second)(format, board, b) || a != b {
+            return None;
+        }
+    }
+
+    let once = |call: Call, rooms: &mut [Vec<u8>]| {
+        for (board, room) in subject.boards.iter().zip(rooms) {
+            black_box(call(format, black_box(board), black_box(room)));
+        }
+    };
+    let mut library = Series::new(|| once(timed.library, &mut of_library));
+    let mut second = Series::new(|| once(timed.second, &mut of_second));
+    let started = Instant::now();
+    while started.elapsed() < limit || library.times.len() < 5 {
+        library.sample();
+        second.sample();
+    }
+    Some((library.median(), second.median()))
+}
+
+/// Timed rounds of one call.
+struct Series<F: FnMut()> {
+    round: F,
+    /// How many rounds are timed together, so that the clock's own time does not count.
+    together: u32,
+    times: Vec<f64>,
+}
+
+impl<F: FnMut()> Series<F> {
+    fn new(mut round: F) -> Series<F> {
+        let mut together = 1;
+        loop {
+            let started = Instant::now();
+            for _ in 0..together {
+                round();
+            }
+            if started.elapsed() > Duration::from_micros(200) {
+                break;
+            }
+            together *= 2;
+        }
+        Series {
+            round,
+            together,
+            times: Vec::new(),
+        }
+    }
+
+    fn sample(&mut self) {
+        let started = Instant::now();
+        for _ in 0..self.together {
+            (self.round)();
+        }
+        let time = started.elapsed().as_secs_f64();
+        self.times.push(time / f64::from(self.together));
+    }
+
+    fn median(mut self) -> f64 {
+        self.times.sort_by(f64::total_cmp);
+        self.times[self.times.len() / 2]
+    }
+}
+
+/// A time with a fitting unit.
+fn shown(seconds: f64) -> String {
+    match seconds {
+        s if s < 1e-6 => format!("{:.0} ns", s * 1e9),
+        s if s < 1e-3 => format!("{:.2} µs", s * 1e6),
+        s => format!("{:.2} ms", s * 1e3),
+    }
+}

@@ -1,0 +1,176 @@
+//! What is timed: images from one board's to the largest that there are.
+
+use images::fields::List;
+use images::generate::{kept, named};
+use images::image::{Entry, Format, Image, LONGEST};
+use images::random::Random;
+use images::{fboss, vpd};
+
+/// One image with what the calls on it take.
+pub struct Board {
+    pub image: Vec<u8>,
+    pub entries: usize,
+    /// The middle entry, which is a named one, and another value of the same length for it.
+    pub middle: u64,
+    pub value: Vec<u8>,
+    /// The fields of a write and their values.
+    pub fields: Vec<u8>,
+    pub values: Vec<u8>,
+}
+
+/// One or more images of a format. One round of a call is that call on each of them.
+pub struct Subject {
+    pub name: &'static str,
+    pub format: Format,
+    pub boards: Vec<Board>,
+}
+
+impl Subject {
+    /// How many entries there are in all.
+    pub fn entries(&self) -> usize {
+        self.boards.iter().map(|board| board.entries).sum()
+    }
+}
+
+pub fn all() -> Vec<Subject> {
+    let mut random = Random::of_input(1, 0, 0);
+    let tray = (0..1000).map(tiny_board).collect();
+    let subject = |name, format, boards| Subject {
+        name,
+        format,
+        boards,
+    };
+    vec![
+        subject("000's example, 8,192 bytes", Format::Fboss, vec![example()]),
+        subject("SKU image, 9 bytes", Format::Vpd, vec![sku()]),
+        subject("tray of 1,000 Tiny boards", Format::Tiny, tray),
+        subject(
+            "FBOSS, 65,536 bytes",
+            Format::Fboss,
+            vec![full_fboss(&mut random, 255)],
+        ),
+        subject(
+            "FBOSS, 65,536 bytes",
+            Format::Fboss,
+            vec![full_fboss(&mut random, 0)],
+        ),
+        subject(
+            "VPD, 65,536 bytes",
+            Format::Vpd,
+            vec![full_vpd(&mut random, 650)],
+        ),
+        subject(
+            "VPD, 65,536 bytes",
+            Format::Vpd,
+            vec![full_vpd(&mut random, 0)],
+        ),
+    ]
+}
+
+/// An image with bytes after its end up to a length, and a write of its own entries.
+fn board(format: Format, entries: Vec<Entry>, length: usize, value: Vec<u8>) -> Board {
+    let mut list = List::default();
+    for entry in &entries {
+        list.add(entry.code.into(), &entry.key, &entry.value);
+    }
+    let count = entries.len();
+    let mut image = Image::new(format, entries).bytes();
+    if image.len() < length {
+        image.resize(length, 0xFF);
+    }
+    Board {
+        image,
+        entries: count,
+        middle: count as u64 / 2,
+        value,
+        fields: list.bytes(),
+        values: list.values,
+    }
+}
+
+/// 000, Example.
+fn example() -> Board {
+    let values: [&[u8]; 20] = [
+        b"FIRST_SQUEEZE",
+        b"20123456",
+        b"SYSA1234",
+        b"PCBA1234567 ",
+        b"PCB12345678 ",
+        b"MYODM1234567",
+        b"OS123456789AB",
+        &[1],
+        &[0],
+        &[1],
+        b"PS1234567890A",
+        b"UNA_MAS",
+        b"20130203",
+        b"TERZO",
+        b"JUICETORY",
+        b"BUDOKAN",
+        &[0x11, 0x22, 0x33, 0x44, 0x55, 0x66, 0x01, 0x02],
+        &[0x12, 0x34, 0x56, 0x78, 0x9A, 0xBC, 0x03, 0x04],
+        &[0x66, 0x55, 0x44, 0x33, 0x22, 0x11, 0x02, 0x00],
+        &[0xFE, 0xDC, 0xBA, 0x98, 0x76, 0x54, 0x00, 0x02],
+    ];
+    let entries = (1..)
+        .zip(values)
+        .map(|(code, value)| Entry::new(code, value.to_vec()))
+        .collect();
+    board(Format::Fboss, entries, 8192, b"PS0987654321Z".to_vec())
+}
+
+/// 01: the SKU image.
+fn sku() -> Board {
+    let entry = Entry::with_key(1, b"SKU".to_vec(), b"A7".to_vec());
+    board(Format::Vpd, vec![entry], 0, b"B8".to_vec())
+}
+
+/// A board of a tray: its own serial number in the pool and its own address.
+fn tiny_board(number: u32) -> Board {
+    let [_, high, middle, low] = number.to_be_bytes();
+    let mut pool = format!("SN{number:06}").into_bytes();
+    *pool.last_mut().expect("the serial number has digits") |= 0x80;
+    pool.extend(b"PN-4711-0\xB1");
+    let entries = vec![
+        Entry::new(0x10, vec![0]),
+        Entry::new(0x11, vec![0x0F]),
+        Entry::new(0x60, vec![0x02, 0x00, 0x5E, high, middle, low]),
+        Entry::new(0x61, vec![0, 1, 2, 3, b'A', b'B']),
+        Entry::new(0x80, vec![0, 1, 2, 3, b'A', b'B', 0x39, 0x05]),
+        Entry::new(0x01, pool),
+    ];
+    board(Format::Tiny, entries, 0, vec![0, 1, 2, 4, b'C', b'D'])
+}
+
+/// An FBOSS image of the longest size with values of about one length and the serial number in the
+/// middle. Its unnamed entries can't be written, so the write is of the twenty named fields, with
+/// text of about that length.
+fn full_fboss(random: &mut Random, value_length: usize) -> Board {
+    // The serial number gets a byte, for which an entry of the longest size would have no room.
+    let mut entries = fboss::filling(random, LONGEST - 1, value_length);
+    let at = entries.iter().position(|entry| entry.code == 11);
+    let mut serial = entries.remove(at.expect("the serial number is required"));
+    serial.value = b"S".to_vec();
+    let middle = entries.len().div_ceil(2);
+    entries.insert(middle, serial);
+    let mut board = board(Format::Fboss, entries, LONGEST, b"T".to_vec());
+
+    let mut list = List::default();
+    for code in named(Format::Fboss, 2) {
+        let value = match code {
+            3..=5 | 8..=10 | 13 | 17..=20 => kept(random, Format::Fboss, code),
+            _ => vec![b'x'; value_length],
+        };
+        list.add(code.into(), &[], &value);
+    }
+    board.fields = list.bytes();
+    board.values = list.values;
+    board
+}
+
+/// A VPD image of the longest size with distinct keys and values of about one length.
+fn full_vpd(random: &mut Random, value_length: usize) -> Board {
+    let entries = vpd::filling(random, LONGEST, value_length);
+    let value = random.bytes(entries[entries.len() / 2].value.len());
+    board(Format::Vpd, entries, LONGEST, value)
+}

@@ -1,0 +1,14 @@
+//! Images and field lists of every format, generated from a seed: good ones, damaged ones, and the
+//! largest that there are.
+//!
+//! This is written from the scope document and shares no code with the library or the second reader.
+
+pub mod checks;
+pub mod damage;
+pub mod fboss;
+pub mod fields;
+pub mod generate;
+pub mod image;
+pub mod random;
+pub mod tiny;
+pub mod vpd;
