@@ -2,6 +2,9 @@
 use layout::Checked;
 use layout::Entry;
 use layout::Lookup;
+use layout::Part;
+use layout::Place;
+use layout::Reading;
 use layout::Refusal;
 use layout::StringNumber;
 
@@ -186,6 +189,40 @@ fn is_sku(image: &[u8]) -> bool {
     has_count(2, 2, image, 1) & has_pair(image, 0, b"SKU", b"A7")
 }
 
+// A record of no entry.
+fn blank() -> Entry {
+    let key = Part {
+        place: Place(0),
+        len: 0,
+    };
+    let value = Part {
+        place: Place(0),
+        len: 0,
+    };
+    Entry {
+        code: 0,
+        kind: 99,
+        place: Place(0),
+        key: key,
+        value: value,
+        reading: Reading::Plain,
+    }
+}
+
+// The list fills the first of four records, and the next stays as it was.
+fn is_listed(image: &[u8]) -> bool {
+    let four = [blank(); 4];
+    let x = listing::list_four(2, 2, image, four);
+    let records = x.records;
+    let first = records[0];
+    let second = records[1];
+    let answer = x.answer;
+    match answer {
+        Checked::Accepted(n) => (n == 1) & (first.kind == 513) & (second.kind == 99),
+        Checked::Refused(_) => false,
+    }
+}
+
 // Whether a string of the pool is this one.
 fn has_string(image: &[u8], number: usize, text: &[u8]) -> bool {
     let found = reader::string_at(3, 2, image, StringNumber(number));
@@ -223,6 +260,7 @@ fn run_pairs() {
         ),
     );
     say(b"sku", is_sku(b"\x01\x03SKU\x02A7\x00"));
+    say(b"sku, listed", is_listed(b"\x01\x03SKU\x02A7\x00"));
 }
 
 fn main() {

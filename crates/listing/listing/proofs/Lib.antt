@@ -1,2 +1,0 @@
-pub mod Replaced
-pub mod Stepping
