@@ -1,0 +1,116 @@
+-- What the eight calls from C answer, and what the memory then is that they were lent (docs/C-INTERFACE.md).
+-- Assumes nothing.
+use Prim.Native.Nat.{ℕ, _+_, _*_, _/_}
+use mathlib.Core.List.{List, [], _∷_, _++_}
+use lib.ListN.{length, take, drop}
+use lib.Dec.{leb}
+use Rattle.layout.specs.declared.Entry.{Entry}
+use Rattle.layout.specs.declared.Lookup.{Lookup}
+use Rattle.layout.specs.declared.Lookup.the-variants.{Found, Missing}
+use Rattle.layout.specs.declared.Refusal.{Refusal}
+use Rattle.layout.specs.Bytes.{if, partAt, refusal}
+use Rattle.layout.specs.Editions.{shape}
+use Rattle.layout.specs.Read.{Read, accepted, refused, readImage}
+use Rattle.layout.specs.Calls.{Step, told, toldRefusal, toldChecked, toldLocated, toldLookup, checkImage, entriesOf, entryAt, valueAt, stringAt, stepFrom}
+use Rattle.layout.specs.Write.{word, fieldsIn, Outcome, writeImage, toldMade}
+use Rattle.layout.specs.Edit.{editEntry}
+use Rattle.records.specs.Packed.{packed}
+use Rattle.records.specs.Words.{wordsBytes, recordBytes, recordsBytes}
+
+-- an answer, and what the lent memory then is
+pub record Given : Type 0 where
+  pub answer : ℕ
+  pub memory : List ℕ
+
+abbrev pub kept : Refusal → List ℕ → Given
+kept r m = record { answer = packed (toldRefusal r); memory = m }
+
+-- ---- calls that write nothing
+
+abbrev pub checkCall : ℕ → ℕ → List ℕ → ℕ
+checkCall f e img = packed (toldChecked (checkImage f e img))
+
+abbrev pub valueCall : ℕ → ℕ → List ℕ → ℕ → ℕ
+valueCall f e img n = packed (toldLocated (valueAt f e img n))
+
+abbrev pub stringCall : ℕ → ℕ → List ℕ → ℕ → ℕ
+stringCall f e img number = packed (toldLocated (stringAt f e img number))
+
+-- ---- one record
+
+-- the entry's record takes the place of the first 64 bytes; 12 where they are not there
+abbrev pub recorded : Lookup → List ℕ → Given
+recorded (Found x) m =
+    if (leb 64 (length m))
+    (λ _. record { answer = packed (toldLookup (Found x)); memory = recordBytes x ++ drop 64 m })
+    (λ _. kept (refusal 12 0) m)
+recorded (Missing r) m = kept r m
+
+unfoldable pub entryCall : ℕ → ℕ → List ℕ → ℕ → List ℕ → Given
+entryCall f e img n m = recorded (entryAt f e img n) m
+
+-- ---- the walk's step
+
+-- a walk in lent bytes: format, edition, and the entry number in two words. One that is cut short is read as format 0
+abbrev pub walkFormat : List ℕ → ℕ
+walkFormat w = if (leb 16 (length w)) (λ _. word 0 w) (λ _. 0)
+
+abbrev pub walkEdition : List ℕ → ℕ
+walkEdition w = if (leb 16 (length w)) (λ _. word 4 w) (λ _. 0)
+
+abbrev pub walkEntry : List ℕ → ℕ
+walkEntry w = if (leb 16 (length w)) (λ _. word 8 w + word 12 w * 4294967296) (λ _. 0)
+
+-- the walk with another entry number
+abbrev pub walkAt : List ℕ → ℕ → List ℕ
+walkAt w n = take 8 w ++ (wordsBytes (n ∷ n / 4294967296 ∷ []) ++ drop 16 w)
+
+-- an answer, the walk and the record
+pub record Walked : Type 0 where
+  pub answer : ℕ
+  pub walk : List ℕ
+  pub memory : List ℕ
+
+abbrev pub unmoved : Refusal → List ℕ → List ℕ → Walked
+unmoved r w m = record { answer = packed (toldRefusal r); walk = w; memory = m }
+
+-- the walk has the entry number n where the step is not refused
+abbrev pub steppedTo : Lookup → ℕ → List ℕ → List ℕ → Walked
+steppedTo (Found x) n w m =
+    if (leb 64 (length m))
+    (λ _. record { answer = packed (toldLookup (Found x)); walk = walkAt w n; memory = recordBytes x ++ drop 64 m })
+    (λ _. unmoved (refusal 12 0) w m)
+steppedTo (Missing r) n w m = unmoved r w m
+
+abbrev pub stepped : Step → List ℕ → List ℕ → Walked
+stepped s w m = steppedTo (s .answer) (s .next) w m
+
+unfoldable pub stepCall : List ℕ → List ℕ → List ℕ → Walked
+stepCall w img m = stepped (stepFrom (walkFormat w) (walkEdition w) (walkEntry w) img) w m
+
+-- ---- all records
+
+-- the records take the place of the first bytes, 64 for each; 12 where there are too few
+abbrev pub recordedAll : List Entry → List ℕ → Given
+recordedAll es m =
+    if (leb (length es) (length m / 64))
+    (λ _. record { answer = packed (told (length es) (partAt 0 0) es); memory = recordsBytes es ++ drop (length es * 64) m })
+    (λ _. kept (refusal 12 0) m)
+
+abbrev pub listedBy : Read → ℕ → List ℕ → Given
+listedBy (accepted f start rs) e m = recordedAll (entriesOf (shape f) e start rs) m
+listedBy (refused r) e m = kept r m
+
+unfoldable pub listCall : ℕ → ℕ → List ℕ → List ℕ → Given
+listCall f e img m = listedBy (readImage f e img) e m
+
+-- ---- write and edit
+
+abbrev pub made : Outcome → Given
+made o = record { answer = packed (toldMade (o .answer)); memory = o .memory }
+
+abbrev pub writeCall : ℕ → ℕ → List ℕ → List ℕ → List ℕ → Given
+writeCall f e fields values out = made (writeImage f e (fieldsIn fields) values out)
+
+abbrev pub editCall : ℕ → ℕ → List ℕ → ℕ → List ℕ → List ℕ → Given
+editCall f e img n value out = made (editEntry f e img n value out)

@@ -1,0 +1,195 @@
+// The calls from C. Each takes the edition of the caller's header; docs/C-INTERFACE.md has the layouts and the packed answer.
+ghost use mathlib.Core.Path.{_≡_};
+ghost use Prim.Native.Nat.{ℕ, _+_, _*_, _/_, _≤_, _<_};
+ghost use mathlib.Core.List.{[], _∷_};
+ghost use lib.ListN.{length};
+ghost use Rattle.layout.specs.Editions.{shape};
+ghost use Rattle.layout.specs.Bytes.{refusal};
+ghost use Rattle.layout.specs.Calls.{entriesOf, toldRefusal};
+ghost use Rattle.layout.specs.Write.{word};
+ghost use Rattle.laws.specs.Passes.{walked, IsDone, rawsIn};
+ghost use Rattle.output.specs.Placing.{copied};
+ghost use Rattle.records.specs.Packed.{packed};
+ghost use Rattle.records.specs.Words.{wordsBytes, recordsBytes};
+ghost use Rattle.boardid.specs.Exports.{checkCall, valueCall, stringCall, entryCall, walkFormat, walkEdition, walkEntry, stepCall, listCall, writeCall, editCall};
+use accept::Taken;
+use layout::Format;
+use layout::Lookup;
+use layout::Place;
+use layout::Refusal;
+use layout::StringNumber;
+use reader::Here;
+use reader::Walk;
+
+// ---- check, value, string
+
+// The number of entries.
+#[no_mangle]
+pub extern "C" fn boardid_check(format: u32, edition: u32, image: &[u8]) -> u64
+    ensures { λ r. ⌜ r ≡ checkCall format edition (now (image .entry)) ⌝ }
+{
+    records::pack_checked(reader::check_image(format, edition, image))
+}
+
+// The part of the image that is the value of entry n.
+#[no_mangle]
+pub extern "C" fn boardid_value(format: u32, edition: u32, image: &[u8], n: u64) -> u64
+    ensures { λ r. ⌜ r ≡ valueCall format edition (now (image .entry)) n ⌝ }
+{
+    records::pack_located(reader::value_part(format, edition, image, n as usize))
+}
+
+// The part of the image that is a string of a Tiny pool.
+#[no_mangle]
+pub extern "C" fn boardid_string(format: u32, edition: u32, image: &[u8], number: u64) -> u64
+    ensures { λ r. ⌜ r ≡ stringCall format edition (now (image .entry)) number ⌝ }
+{
+    records::pack_located(reader::string_part(
+        format,
+        edition,
+        image,
+        StringNumber(number as usize),
+    ))
+}
+
+// ---- one record
+
+// No room for what is asked.
+fn no_room() -> u64
+    ensures { λ r. ⌜ r ≡ packed (toldRefusal (refusal 12 0)) ⌝ }
+{
+    records::pack_refusal(Refusal {
+        number: 12,
+        place: Place(0),
+    })
+}
+
+// The record of entry n.
+#[no_mangle]
+pub extern "C" fn boardid_entry(
+    format: u32,
+    edition: u32,
+    image: &[u8],
+    n: u64,
+    out: &mut [u8],
+) -> u64
+    ensures { λ r. ⌜ (r ≡ entryCall format edition (now (image .entry)) n (now (out .entry)) .answer) × (now (out .exit) ≡ entryCall format edition (now (image .entry)) n (now (out .entry)) .memory) ⌝ }
+{
+    let x = reader::entry_at(format, edition, image, n as usize);
+    match x {
+        Lookup::Missing(r) => records::pack_refusal(r),
+        Lookup::Found(e) => {
+            if out.len() < 64 {
+                return no_room();
+            }
+            records::put_record(out, 0, e);
+            records::pack_count(1)
+        }
+    }
+}
+
+// ---- the walk
+
+// A byte as a number.
+fn wide(x: u8) -> u32
+    ensures { λ r. ⌜ r ≡ x ⌝ }
+{
+    x as u32
+}
+
+// The number at `a`, four bytes, low byte first.
+fn word_at(s: &[u8], a: usize) -> u32
+    requires { ⌜ a + 4 ≤ length (now s) ⌝ }
+    ensures { λ r. ⌜ r ≡ word a (now (s .entry)) ⌝ }
+{
+    wide(s[a]) + wide(s[a + 1]) * 256 + wide(s[a + 2]) * 65536 + wide(s[a + 3]) * 16777216
+}
+
+// The walk that stands in lent bytes; one that is cut short is read as format 0.
+fn walk_in(w: &[u8]) -> Walk
+    ensures { λ r. ⌜ r ≡ record { format = walkFormat (now (w .entry)); edition = walkEdition (now (w .entry)); entry = walkEntry (now (w .entry)) } ⌝ }
+{
+    if w.len() < 16 {
+        return Walk {
+            format: 0,
+            edition: 0,
+            entry: 0,
+        };
+    }
+    let low = word_at(w, 8) as usize;
+    let high = word_at(w, 12) as usize;
+    Walk {
+        format: word_at(w, 0),
+        edition: word_at(w, 4),
+        entry: low + high * 4294967296,
+    }
+}
+
+// The record of the walk's entry; the walk moves on by one.
+#[no_mangle]
+pub extern "C" fn boardid_step(walk: &mut [u8], image: &[u8], out: &mut [u8]) -> u64
+    ensures { λ r. ⌜ (r ≡ stepCall (now (walk .entry)) (now (image .entry)) (now (out .entry)) .answer) × (now (walk .exit) ≡ stepCall (now (walk .entry)) (now (image .entry)) (now (out .entry)) .walk) × (now (out .exit) ≡ stepCall (now (walk .entry)) (now (image .entry)) (now (out .entry)) .memory) ⌝ }
+{
+    let w = walk_in(walk);
+    let s = w.step(image);
+    let x = s.answer;
+    match x {
+        Lookup::Missing(r) => records::pack_refusal(r),
+        Lookup::Found(e) => {
+            if out.len() < 64 {
+                return no_room();
+            }
+            let next = s.next;
+            records::put_long(walk, 8, next.entry as u64);
+            records::put_record(out, 0, e);
+            records::pack_count(1)
+        }
+    }
+}
+
+// ---- the list
+
+// The records of all entries, from the first on. One pass over the image, from entry to entry.
+fn put_records(out: &mut [u8], format: Format, edition: u32, image: &[u8], start: usize, end: usize)
+    requires { ⌜ (start ≤ end) × IsDone (walked format (now image) start end) × (length (rawsIn (walked format (now image) start end)) * 64 ≤ length (now out)) ⌝ }
+    ensures { λ r. ⌜ now (out .exit) ≡ copied (now (out .entry)) 0 (recordsBytes (entriesOf (shape format) edition start (rawsIn (walked format (now (image .entry)) start end)))) ⌝ }
+{
+    let mut p = start;
+    let mut at: usize = 0;
+    let mut shut = false;
+    loop {
+        let x = reader::entry_here(format, edition, image, shut, p, end);
+        match x {
+            Here::Over => {
+                return;
+            }
+            Here::Stands(s) => {
+                let e = s.entry;
+                records::put_record(out, at, e);
+                shut = s.shut;
+                p = s.next;
+                at += 64;
+            }
+        }
+    }
+}
+
+// The records of all entries.
+#[no_mangle]
+pub extern "C" fn boardid_list(format: u32, edition: u32, image: &[u8], out: &mut [u8]) -> u64
+    ensures { λ r. ⌜ (r ≡ listCall format edition (now (image .entry)) (now (out .entry)) .answer) × (now (out .exit) ≡ listCall format edition (now (image .entry)) (now (out .entry)) .memory) ⌝ }
+{
+    let t = accept::take_image(format, edition, image);
+    match t {
+        Taken::Isnt(r) => records::pack_refusal(r),
+        Taken::Is(room) => {
+            let count = room.count;
+            if out.len() / 64 < count {
+                return no_room();
+            }
+            let g = room.format;
+            put_records(out, g, edition, image, room.start, room.end);
+            records::pack_count(count)
+        }
+    }
+}

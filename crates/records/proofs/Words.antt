@@ -1,0 +1,76 @@
+-- Words over lent bytes, one after another.
+-- Assumes nothing.
+use Prim.Native.Nat.{ℕ, suc, _+_, _*_, _≤_, _<_}
+use mathlib.Core.Path.{_≡_, refl, ap, sym, _∙_}
+use mathlib.Core.List.{List, [], _∷_, _++_, append-assoc, append-nil}
+use native.Mathlib.Numerals.{add-one}
+use native.Mathlib.Omega.{arith}
+use lib.ListN.{length, getD, take, length-append}
+use lib.Seq.{take-all, take-suc, length-take-le}
+use Rattle.output.specs.Placing.{over, copied}
+use Rattle.output.proofs.Overlay.{length-over, over-nil, over-over, copied-over, copied-not}
+use Rattle.layout.specs.declared.Reading.{Reading}
+use Rattle.layout.specs.declared.Reading.the-variants.{Plain, Text, Number, Addresses, Numbered, Tests, Identified, Batched}
+use Rattle.layout.specs.Calls.{toldReading}
+use Rattle.records.specs.Words.{wordBytes, wordsBytes, readingWords}
+
+pub length-words : (ws : List ℕ) → length (wordsBytes ws) ≡ length ws * 4
+unfolding wordsBytes
+length-words [] = refl
+length-words (w ∷ ws) = let q = length-words ws in omega (arith, q)
+
+words-snoc : (ws : List ℕ) (w : ℕ) → wordsBytes (ws ++ (w ∷ [])) ≡ wordsBytes ws ++ wordBytes w
+unfolding wordsBytes
+words-snoc [] w = refl
+words-snoc (x ∷ ws) w = ap (λ (l : List ℕ). wordBytes x ++ l) (words-snoc ws w) ∙ sym (append-assoc (wordBytes x) (wordsBytes ws) (wordBytes w))
+
+words-none : wordsBytes [] ≡ []
+unfolding wordsBytes
+words-none = refl
+
+-- the first i words are written over d, from place a on
+abbrev pub Putting : (d : List ℕ) (a : ℕ) (ws out : List ℕ) (i : ℕ) → Type 0
+Putting d a ws out i = (i ≤ length ws) × (out ≡ over d a (wordsBytes (take i ws)))
+
+pub putting-starts : (d : List ℕ) (a : ℕ) (ws : List ℕ) → Putting d a ws d 0
+putting-starts d a ws = (omega arith, sym (ap (over d a) words-none ∙ over-nil d a))
+
+module _ (d : List ℕ) (a : ℕ) (ws out : List ℕ) (i : ℕ) (le : a + length ws * 4 ≤ length d) (inv : Putting d a ws out i) where
+  long : length (wordsBytes (take i ws)) ≡ i * 4
+  long = length-words (take i ws) ∙ ap (λ (n : ℕ). n * 4) (length-take-le i ws (inv .0))
+
+  pub putting-length : length out ≡ length d
+  putting-length = ap length (inv .1) ∙ length-over d a (wordsBytes (take i ws)) (omega (arith, long, inv .0))
+
+  pub puts : (out′ : List ℕ) → i < length ws → out′ ≡ copied out (a + i * 4) (wordBytes (getD ws i 0)) → Putting d a ws out′ (i + 1)
+  puts out′ lt is =
+      let w = wordBytes (getD ws i 0) in
+      let s = wordsBytes (take i ws) in
+      let more : wordsBytes (take (i + 1) ws) ≡ s ++ w = rw (add-one, take-suc ws i 0) (words-snoc (take i ws) (getD ws i 0)) in (
+        omega arith,
+        is
+            ∙ copied-over out (a + i * 4) w (omega (arith, putting-length))
+            ∙ ap (λ (x : List ℕ). over x (a + i * 4) w) (inv .1)
+            ∙ over-over d a s w (a + i * 4) (omega arith) (omega (arith, long))
+            ∙ ap (over d a) (sym more),
+      )
+
+  pub put-all : length ws ≤ i → out ≡ copied d a (wordsBytes ws)
+  put-all ge = inv .1 ∙ ap (λ (x : List ℕ). over d a (wordsBytes x)) (take-all i ws ge) ∙ sym (copied-over d a (wordsBytes ws) (omega (arith, length-words ws)))
+
+-- where they do not fit
+pub not-put : (d : List ℕ) (a : ℕ) (ws : List ℕ) → length d < a + length ws * 4 → d ≡ copied d a (wordsBytes ws)
+not-put d a ws lt = copied-not d a (wordsBytes ws) (omega (arith, length-words ws))
+
+-- a reading has eight words
+pub reading-eight : (r : Reading) → let w = readingWords r in
+    getD w 0 0 ∷ getD w 1 0 ∷ getD w 2 0 ∷ getD w 3 0 ∷ getD w 4 0 ∷ getD w 5 0 ∷ getD w 6 0 ∷ getD w 7 0 ∷ [] ≡ w
+unfolding toldReading
+reading-eight Plain = refl
+reading-eight Text = refl
+reading-eight (Number n) = refl
+reading-eight (Addresses base count) = refl
+reading-eight (Numbered s) = refl
+reading-eight (Tests byte n) = refl
+reading-eight (Identified x) = refl
+reading-eight (Batched x batch) = refl

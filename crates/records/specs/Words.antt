@@ -1,0 +1,32 @@
+-- An entry record in lent bytes: sixteen words of four bytes, low byte first.
+-- Assumes nothing.
+use Prim.Native.Nat.{ℕ, _/_, _%_}
+use mathlib.Core.List.{List, [], _∷_, _++_}
+use lib.ListN.{take, replicate}
+use Rattle.layout.specs.declared.Reading.{Reading}
+use Rattle.layout.specs.declared.Entry.{Entry}
+use Rattle.layout.specs.Calls.{toldReading}
+
+-- a number in four bytes
+abbrev pub wordBytes : ℕ → List ℕ
+wordBytes n = n % 256 ∷ n / 256 % 256 ∷ n / 65536 % 256 ∷ n / 16777216 % 256 ∷ []
+
+unfoldable pub wordsBytes : List ℕ → List ℕ
+wordsBytes [] = []
+wordsBytes (w ∷ ws) = wordBytes w ++ wordsBytes ws
+
+-- a reading's number and what it carries, in eight words; 0 where it carries nothing
+abbrev pub readingWords : Reading → List ℕ
+readingWords r = take 8 (toldReading r ++ replicate 8 0)
+
+-- code, kind, place, key, value, 0, reading
+abbrev pub recordWords : Entry → List ℕ
+recordWords x =
+    x .code ∷ x .kind ∷ x .place .0 ∷ x .key .place .0 ∷ x .key .len ∷ x .value .place .0 ∷ x .value .len ∷ 0 ∷ readingWords (x .reading)
+
+unfoldable pub recordBytes : Entry → List ℕ
+recordBytes x = wordsBytes (recordWords x)
+
+unfoldable pub recordsBytes : List Entry → List ℕ
+recordsBytes [] = []
+recordsBytes (x ∷ xs) = recordBytes x ++ recordsBytes xs

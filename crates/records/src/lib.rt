@@ -1,0 +1,191 @@
+// What goes out to C: the packed answer, and an entry record in lent bytes.
+ghost use mathlib.Core.Path.{_≡_};
+ghost use Prim.Native.Nat.{ℕ, _+_, _*_, _/_};
+ghost use mathlib.Core.List.{[], _∷_};
+ghost use Rattle.layout.specs.Calls.{told, toldRefusal, toldChecked, toldLocated};
+ghost use Rattle.layout.specs.Write.{toldMade};
+ghost use Rattle.layout.specs.Bytes.{partAt};
+ghost use Rattle.output.specs.Placing.{copied};
+ghost use Rattle.records.specs.Packed.{packed};
+ghost use Rattle.records.specs.Words.{wordBytes, wordsBytes, readingWords, recordWords, recordBytes};
+use layout::Checked;
+use layout::Entry;
+use layout::Identity;
+use layout::Located;
+use layout::Made;
+use layout::Reading;
+use layout::Refusal;
+
+// ---- the packed answer
+
+// A refusal.
+pub fn pack_refusal(r: Refusal) -> u64
+    ensures { λ a. ⌜ a ≡ packed (toldRefusal r) ⌝ }
+{
+    let number = r.number;
+    if number == 0 {
+        return 0;
+    }
+    let place = r.place;
+    let at = place.0;
+    (number % 32) as u64 * 576460752303423488 + (at % 576460752303423488) as u64
+}
+
+// A count.
+pub fn pack_count(n: usize) -> u64
+    ensures { λ a. ⌜ a ≡ packed (told n (partAt 0 0) []) ⌝ }
+{
+    (n % 134217728) as u64 * 4294967296
+}
+
+// A count of entries, or the refusal.
+pub fn pack_checked(x: Checked) -> u64
+    ensures { λ a. ⌜ a ≡ packed (toldChecked x) ⌝ }
+{
+    match x {
+        Checked::Accepted(n) => pack_count(n),
+        Checked::Refused(r) => pack_refusal(r),
+    }
+}
+
+// The length of the image that was made, or the refusal.
+pub fn pack_made(x: Made) -> u64
+    ensures { λ a. ⌜ a ≡ packed (toldMade x) ⌝ }
+{
+    match x {
+        Made::Wrote(n) => pack_count(n),
+        Made::Unwritten(r) => pack_refusal(r),
+    }
+}
+
+// A part of the image, or the refusal.
+pub fn pack_located(x: Located) -> u64
+    ensures { λ a. ⌜ a ≡ packed (toldLocated x) ⌝ }
+{
+    match x {
+        Located::Nowhere(r) => pack_refusal(r),
+        Located::At(part) => {
+            let place = part.place;
+            let at = place.0;
+            (part.len % 134217728) as u64 * 4294967296 + (at % 4294967296) as u64
+        }
+    }
+}
+
+// ---- a record
+
+fn word_bytes(n: u64) -> [u8; 4]
+    ensures { λ r. ⌜ r ≡ wordBytes n ⌝ }
+{
+    [
+        (n % 256) as u8,
+        (n / 256 % 256) as u8,
+        (n / 65536 % 256) as u8,
+        (n / 16777216 % 256) as u8,
+    ]
+}
+
+// Words over `out`, from `at` on, where they fit.
+fn put_words(out: &mut [u8], at: usize, words: &[u64])
+    ensures { λ r. ⌜ now (out .exit) ≡ copied (now (out .entry)) at (wordsBytes (now (words .entry))) ⌝ }
+{
+    if out.len() < at {
+        return;
+    }
+    if (out.len() - at) / 4 < words.len() {
+        return;
+    }
+    let mut i = 0;
+    while i < words.len() {
+        let b = word_bytes(words[i]);
+        output::copy_at(out, at + i * 4, &b);
+        i += 1;
+    }
+}
+
+// A number of 64 bits over `out`, from `at` on, low byte first, where it fits.
+pub fn put_long(out: &mut [u8], at: usize, n: u64)
+    ensures { λ r. ⌜ now (out .exit) ≡ copied (now (out .entry)) at (wordsBytes (n ∷ n / 4294967296 ∷ [])) ⌝ }
+{
+    let words = [n, n / 4294967296];
+    put_words(out, at, &words);
+}
+
+fn identity_words(first: u64, x: Identity, last: u64) -> [u64; 8]
+    ensures { λ r. ⌜ r ≡ (first ∷ x .serial .0 ∷ x .part .0 ∷ x .major ∷ x .minor ∷ x .free0 ∷ x .free1 ∷ last ∷ []) ⌝ }
+{
+    let serial = x.serial;
+    let part = x.part;
+    [
+        first,
+        serial.0 as u64,
+        part.0 as u64,
+        x.major as u64,
+        x.minor as u64,
+        x.free0 as u64,
+        x.free1 as u64,
+        last,
+    ]
+}
+
+fn reading_words(r: Reading) -> [u64; 8]
+    ensures { λ w. ⌜ w ≡ readingWords r ⌝ }
+{
+    match r {
+        Reading::Plain => [0, 0, 0, 0, 0, 0, 0, 0],
+        Reading::Text => [1, 0, 0, 0, 0, 0, 0, 0],
+        Reading::Number(n) => [2, n as u64, 0, 0, 0, 0, 0, 0],
+        Reading::Addresses(base, count) => [
+            3,
+            base / 4294967296,
+            base % 4294967296,
+            count as u64,
+            0,
+            0,
+            0,
+            0,
+        ],
+        Reading::Numbered(s) => [4, s.0 as u64, 0, 0, 0, 0, 0, 0],
+        Reading::Tests(byte, passed) => [5, byte as u64, passed as u64, 0, 0, 0, 0, 0],
+        Reading::Identified(x) => identity_words(6, x, 0),
+        Reading::Batched(x, batch) => identity_words(7, x, batch as u64),
+    }
+}
+
+fn record_words(x: Entry) -> [u64; 16]
+    ensures { λ r. ⌜ r ≡ recordWords x ⌝ }
+{
+    let place = x.place;
+    let key = x.key;
+    let key_place = key.place;
+    let value = x.value;
+    let value_place = value.place;
+    let reading = x.reading;
+    let w = reading_words(reading);
+    [
+        x.code as u64,
+        x.kind as u64,
+        place.0 as u64,
+        key_place.0 as u64,
+        key.len as u64,
+        value_place.0 as u64,
+        value.len as u64,
+        0,
+        w[0],
+        w[1],
+        w[2],
+        w[3],
+        w[4],
+        w[5],
+        w[6],
+        w[7],
+    ]
+}
+
+// The record of an entry over `out`, from `at` on, where it fits.
+pub fn put_record(out: &mut [u8], at: usize, x: Entry)
+    ensures { λ r. ⌜ now (out .exit) ≡ copied (now (out .entry)) at (recordBytes x) ⌝ }
+{
+    let words = record_words(x);
+    put_words(out, at, &words);
+}
