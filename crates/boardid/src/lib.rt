@@ -6,7 +6,6 @@ ghost use lib.ListN.{length};
 ghost use Rattle.layout.specs.Editions.{shape};
 ghost use Rattle.layout.specs.Bytes.{refusal};
 ghost use Rattle.layout.specs.Calls.{entriesOf, toldRefusal};
-ghost use Rattle.layout.specs.Write.{word};
 ghost use Rattle.laws.specs.Passes.{walked, IsDone, rawsIn};
 ghost use Rattle.output.specs.Placing.{copied};
 ghost use Rattle.records.specs.Packed.{packed};
@@ -90,21 +89,6 @@ pub extern "C" fn boardid_entry(
 
 // ---- the walk
 
-// A byte as a number.
-fn wide(x: u8) -> u32
-    ensures { λ r. ⌜ r ≡ x ⌝ }
-{
-    x as u32
-}
-
-// The number at `a`, four bytes, low byte first.
-fn word_at(s: &[u8], a: usize) -> u32
-    requires { ⌜ a + 4 ≤ length (now s) ⌝ }
-    ensures { λ r. ⌜ r ≡ word a (now (s .entry)) ⌝ }
-{
-    wide(s[a]) + wide(s[a + 1]) * 256 + wide(s[a + 2]) * 65536 + wide(s[a + 3]) * 16777216
-}
-
 // The walk that stands in lent bytes; one that is cut short is read as format 0.
 fn walk_in(w: &[u8]) -> Walk
     ensures { λ r. ⌜ r ≡ record { format = walkFormat (now (w .entry)); edition = walkEdition (now (w .entry)); entry = walkEntry (now (w .entry)) } ⌝ }
@@ -116,11 +100,11 @@ fn walk_in(w: &[u8]) -> Walk
             entry: 0,
         };
     }
-    let low = word_at(w, 8) as usize;
-    let high = word_at(w, 12) as usize;
+    let low = fields::word_in(w, 8) as usize;
+    let high = fields::word_in(w, 12) as usize;
     Walk {
-        format: word_at(w, 0),
-        edition: word_at(w, 4),
+        format: fields::word_in(w, 0),
+        edition: fields::word_in(w, 4),
         entry: low + high * 4294967296,
     }
 }
