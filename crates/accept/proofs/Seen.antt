@@ -13,10 +13,10 @@ use Rattle.layout.specs.declared.Format.the-variants.{Vpd}
 use Rattle.layout.specs.declared.Frame.{Frame}
 use Rattle.layout.specs.declared.Next.the-variants.{Framed}
 use Rattle.layout.specs.Bytes.{if, sameBytes, part}
-use Rattle.layout.specs.Shape.{Shape, Label, next}
+use Rattle.layout.specs.Shape.{Label, next}
 use Rattle.layout.specs.Vpd.{vpd, vpdTwice}
 use Rattle.layout.specs.Editions.{shape}
-use Rattle.layout.specs.Walk.{Raw, content, labelOf}
+use Rattle.layout.specs.Walk.{Raw, content}
 use Rattle.layout.specs.Read.{same, seenBefore, codesOf}
 use Rattle.laws.specs.Grammar.{grammar}
 use Rattle.laws.specs.Marked.{marked}
