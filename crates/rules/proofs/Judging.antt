@@ -15,7 +15,7 @@ use Rattle.layout.specs.Shape.{Shape, Label}
 use Rattle.layout.specs.Editions.{shape, names}
 use Rattle.layout.specs.Walk.{Content, labelOf}
 use Rattle.layout.specs.Read.{seenBefore, fine, orElse, complete}
-use Rattle.layout.specs.Write.{fieldAt, partsInside, fieldContent, writerRule, fieldFault, judgeFields, contentsOf, contentCodes, entryBytes, entriesBytes}
+use Rattle.layout.specs.Write.{fieldAt, fieldKey, partsInside, fieldContent, writerRule, fieldFault, judgeFields, contentsOf, contentCodes, entryBytes, entriesBytes}
 use Rattle.laws.specs.Marked.{allMarked}
 use Rattle.laws.proofs.Marks.{Marks, none-marked, one-marked, marked-complete}
 use Rattle.laws.proofs.Names.{named-byte, required-bytes}
@@ -45,10 +45,12 @@ module _ (S : Shape) (e : ℕ) (values : List ℕ) (shut : Bool) (seen : List La
   unfolding fieldFault
   fault-rule n p b r = rw (n, p, b, r)
 
-  pub fault-seen : names S e (x .code) ≡ true → partsInside (S .keyed) x values ≡ true → shut ≡ false → writerRule S (fieldContent S values x) ≡ true → (t : Bool) →
-      seenBefore S seen (labelOf (fieldContent S values x)) ≡ t → fieldFault S e values shut seen x ≡ if {A = ℕ} t (λ _. 8) (λ _. 0)
+  -- `key` is the field's key, and `s` tells whether it was seen
+  pub fault-seen : names S e (x .code) ≡ true → partsInside (S .keyed) x values ≡ true → shut ≡ false → writerRule S (fieldContent S values x) ≡ true →
+      (key : List ℕ) → key ≡ fieldKey (S .keyed) x values → (s t : Bool) → s ≡ seenBefore S seen (record { code = x .code; key = key }) → s ≡ t →
+      fieldFault S e values shut seen x ≡ if {A = ℕ} t (λ _. 8) (λ _. 0)
   unfolding fieldFault
-  fault-seen n p b r t s = rw (n, p, b, r, s)
+  fault-seen n p b r key k s t q h = rw (n, p, b, r, ← k, ← q, h)
 
   fault-names : fieldFault S e values shut seen x ≡ 0 → names S e (x .code) ≡ true
   fault-names z = go (names S e (x .code)) refl
@@ -144,16 +146,16 @@ module _ (f : Format) (e : ℕ) (xs : List Field) (values : List ℕ) (i : ℕ) 
     pub judged-fault : (k : ℕ) → k ≡ fieldFault (shape f) e values shut seen x → (k ≡ 0 → ⊥) → Unsound k i ≡ judgedFields f e xs values
     unfolding judgedFields
     judged-fault zero q z = absurd (z refl)
-    judged-fault (suc k) q z = rw (judged-one, sym q)
+    judged-fault (suc k) q z = rw (judged-one, ← q)
 
     -- a field without a fault has a code that is a byte
-    pub fault-byte : 0 ≡ fieldFault (shape f) e values shut seen x → x .code < 256
-    fault-byte q = named-byte f e (x .code) (fault-names (shape f) e values shut seen x (sym q))
+    pub fault-byte : (k : ℕ) → k ≡ fieldFault (shape f) e values shut seen x → k ≡ 0 → x .code < 256
+    fault-byte k q z = named-byte f e (x .code) (fault-names (shape f) e values shut seen x (sym q ∙ z))
 
     -- no fault, and the pass goes on
-    pub judging-on : 0 ≡ fieldFault (shape f) e values shut seen x → (n : ℕ) → n ≡ capped (length (entryBytes (shape f) (fieldContent (shape f) values x))) →
+    pub judging-on : (k : ℕ) → k ≡ fieldFault (shape f) e values shut seen x → k ≡ 0 → (n : ℕ) → n ≡ capped (length (entryBytes (shape f) (fieldContent (shape f) values x))) →
         (m : ℕ) → m ≡ capped (total + n) → Judging f e xs values (i + 1) (shape f .last (x .code)) (set marks (x .code) 1) m
-    judging-on q n nq m mq =
+    judging-on k q z n nq m mq =
         let labels : fieldLabels (shape f) values (take (i + 1) xs) ≡ seen ++ (labelOf (fieldContent (shape f) values x) ∷ [])
         = ap (fieldLabels (shape f) values) past ∙ labels-snoc (shape f) values (take i xs) x in
         let codes : labelCodes (fieldLabels (shape f) values (take (i + 1) xs)) ≡ labelCodes seen ++ (x .code ∷ []) = ap labelCodes labels ∙ codes-snoc seen (labelOf (fieldContent (shape f) values x)) in
@@ -162,8 +164,8 @@ module _ (f : Format) (e : ℕ) (xs : List Field) (values : List ℕ) (i : ℕ) 
         let sum : made (shape f) values (take (i + 1) xs) ≡ a + b = ap (made (shape f) values) past ∙ made-snoc (shape f) values (take i xs) x in
         record {
           bound = omega arith;
-          isMarked = rw codes (one-marked (labelCodes seen) marks (x .code) (fault-byte q) (w .isMarked));
-          left = judged-one ∙ rw (sym q) (ap (λ (l : List Label). judgeFields (shape f) e values (shape f .last (x .code)) l (drop (i + 1) xs) (i + 1)) (sym labels));
+          isMarked = rw codes (one-marked (labelCodes seen) marks (x .code) (fault-byte k q z) (w .isMarked));
+          left = judged-one ∙ rw (← q, z) (ap (λ (l : List Label). judgeFields (shape f) e values (shape f .last (x .code)) l (drop (i + 1) xs) (i + 1)) (sym labels));
           counted = rw sum (mq ∙ rw (w .counted, nq) (capped-sum a b));
         }
 

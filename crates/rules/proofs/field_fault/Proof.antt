@@ -9,8 +9,6 @@ use denote.Ref.{now}
 use lib.ListN.{take}
 use Rattle.layout.specs.Shape.{Shape, Label}
 use Rattle.layout.specs.Editions.{shape, names}
-use Rattle.layout.specs.Walk.{labelOf}
-use Rattle.layout.specs.Read.{seenBefore}
 use Rattle.layout.specs.Write.{fieldsIn, partsInside, fieldContent, writerRule}
 use Rattle.laws.proofs.Names.{named-byte}
 use Rattle.rules.specs.Fields.{fieldLabels}
@@ -86,8 +84,9 @@ returns-5 c =
     let n : names S (a .edition) (a .x .code) ≡ true = sym (c .before .before .before .before .before .before .before .before .before .is-named .ensures) ∙ not-false _ (c .before .before .before .before .before .before .before .before .if1 .left) in
     let p : partsInside (S .keyed) (a .x) values ≡ true = sym (c .before .before .before .before .before .before .before .parts-inside .ensures) ∙ not-false _ (c .before .before .before .before .before .before .if2 .left) in
     let r : writerRule S (fieldContent S values (a .x)) ≡ true = sym (c .before .before .before .before .meets-rule .ensures) ∙ not-false _ (c .before .before .before .if4 .left) in
-    let s : seenBefore S seen (labelOf (fieldContent S values (a .x))) ≡ true = rw (c .before .before .field-key .ensures) at (sym (c .before .is-seen .ensures) ∙ c .if5 .taken) in
-    sym (fault-seen S (a .edition) values (a .shut) seen (a .x) n p (c .before .before .before .before .before .if3 .left) r true s)
+    sym
+    (fault-seen S (a .edition) values (a .shut) seen (a .x) n p (c .before .before .before .before .before .if3 .left) r (now (c .before .before .field-key .result)) (c .before .before .field-key .ensures)
+    (c .before .is-seen .result) true (c .before .is-seen .ensures) (c .if5 .taken))
 
 returns-6 : tie.Need-returns-6
 returns-6 c =
@@ -98,8 +97,9 @@ returns-6 c =
     let n : names S (a .edition) (a .x .code) ≡ true = sym (c .before .before .before .before .before .before .before .before .before .is-named .ensures) ∙ not-false _ (c .before .before .before .before .before .before .before .before .if1 .left) in
     let p : partsInside (S .keyed) (a .x) values ≡ true = sym (c .before .before .before .before .before .before .before .parts-inside .ensures) ∙ not-false _ (c .before .before .before .before .before .before .if2 .left) in
     let r : writerRule S (fieldContent S values (a .x)) ≡ true = sym (c .before .before .before .before .meets-rule .ensures) ∙ not-false _ (c .before .before .before .if4 .left) in
-    let s : seenBefore S seen (labelOf (fieldContent S values (a .x))) ≡ false = rw (c .before .before .field-key .ensures) at (sym (c .before .is-seen .ensures) ∙ c .if5 .left) in
-    sym (fault-seen S (a .edition) values (a .shut) seen (a .x) n p (c .before .before .before .before .before .if3 .left) r false s)
+    sym
+    (fault-seen S (a .edition) values (a .shut) seen (a .x) n p (c .before .before .before .before .before .if3 .left) r (now (c .before .before .field-key .result)) (c .before .before .field-key .ensures)
+    (c .before .is-seen .result) false (c .before .is-seen .ensures) (c .if5 .left))
 
 pub field-fault-spec : {M : Type 1} → statement M
 field-fault-spec =

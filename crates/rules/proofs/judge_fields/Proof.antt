@@ -45,7 +45,7 @@ cast-at c =
     let l = c .before .before .before .before .before .loop in
     let xs = fieldsIn (now (a .fields)) in
     let lt : l .i < length xs = rw (c .before .before .before .before .before .before .count-fields .ensures) at (c .before .before .before .before .loop-test .taken) in
-    let code = fault-byte (a .format) (a .edition) xs (now (a .values)) (l .i) (l .shut) (l .seen) (l .total) (l .inv) (c .before .before .before .field-at .result) (c .before .before .before .field-at .ensures) lt (sym (c .if1 .left) ∙ c .before .field-fault .ensures) in
+    let code = fault-byte (a .format) (a .edition) xs (now (a .values)) (l .i) (l .shut) (l .seen) (l .total) (l .inv) (c .before .before .before .field-at .result) (c .before .before .before .field-at .ensures) lt (c .before .field-fault .result) (c .before .field-fault .ensures) (c .if1 .left) in
     omega arith
 
 array-write-seen : tie.Need-array-write-seen Inv-loop μ-loop
@@ -54,7 +54,7 @@ array-write-seen c =
     let l = c .before .before .before .before .before .loop in
     let xs = fieldsIn (now (a .fields)) in
     let lt : l .i < length xs = rw (c .before .before .before .before .before .before .count-fields .ensures) at (c .before .before .before .before .loop-test .taken) in
-    fault-byte (a .format) (a .edition) xs (now (a .values)) (l .i) (l .shut) (l .seen) (l .total) (l .inv) (c .before .before .before .field-at .result) (c .before .before .before .field-at .ensures) lt (sym (c .if1 .left) ∙ c .before .field-fault .ensures)
+    fault-byte (a .format) (a .edition) xs (now (a .values)) (l .i) (l .shut) (l .seen) (l .total) (l .inv) (c .before .before .before .field-at .result) (c .before .before .before .field-at .ensures) lt (c .before .field-fault .result) (c .before .field-fault .ensures) (c .if1 .left)
 
 is-last-requires : tie.Need-is-last-requires Inv-loop μ-loop
 is-last-requires c κs = tt
@@ -78,7 +78,7 @@ loop-again c =
     let xs = fieldsIn (now (a .fields)) in
     let lt : l .i < length xs = rw (c .before .before .before .before .before .before .before .before .before .count-fields .ensures) at (c .before .before .before .before .before .before .before .loop-test .taken) in
     rw (c .before .before .is-last .ensures)
-    (judging-on (a .format) (a .edition) xs (now (a .values)) (l .i) (l .shut) (l .seen) (l .total) (l .inv) (c .before .before .before .before .before .before .field-at .result) (c .before .before .before .before .before .before .field-at .ensures) lt (sym (c .before .before .before .if1 .left) ∙ c .before .before .before .before .field-fault .ensures) (c .before .field-length .result) (c .before .field-length .ensures)
+    (judging-on (a .format) (a .edition) xs (now (a .values)) (l .i) (l .shut) (l .seen) (l .total) (l .inv) (c .before .before .before .before .before .before .field-at .result) (c .before .before .before .before .before .before .field-at .ensures) lt (c .before .before .before .before .field-fault .result) (c .before .before .before .before .field-fault .ensures) (c .before .before .before .if1 .left) (c .before .field-length .result) (c .before .field-length .ensures)
     (c .add-capped .result) (c .add-capped .ensures))
 
 is-complete-requires : tie.Need-is-complete-requires Inv-loop μ-loop
