@@ -20,6 +20,7 @@ use Rattle.laws.specs.Grammar.{grammar}
 use Rattle.laws.specs.Passes.{walked, IsDone, rawsIn}
 use Rattle.laws.proofs.Formats.{laws}
 use Rattle.laws.proofs.Frames.{rawOf}
+use Rattle.laws.proofs.Records.{entries-none, entries-more, entries-count}
 use Rattle.laws.proofs.Passes.{Passing, pass-first, pass-on, pass-ends, pass-unbroken}
 use Rattle.output.specs.Placing.{over, copied}
 use Rattle.output.proofs.Overlay.{length-over, over-nil, over-over, copied-over}
@@ -30,21 +31,6 @@ use Rattle.reader.specs.Here.{hereBy, hereAt}
 use Rattle.reader.proofs.Lying.{framed-lies}
 use Rattle.records.specs.Words.{wordsBytes, readingWords, recordWords, recordBytes, recordsBytes}
 use Rattle.records.proofs.Words.{length-words, reading-eight}
-
--- ---- entries
-
-entries-more : (S : Shape) (e p : ℕ) (r : Raw) (rs : List Raw) (f : Frame) → r .frame ≡ f → entriesOf S e p (r ∷ rs) ≡ entryOf S e p r ∷ entriesOf S e (p + f .size) rs
-unfolding entriesOf
-entries-more S e p r rs f z = rw (← z)
-
-entries-none : (S : Shape) (e p : ℕ) → entriesOf S e p [] ≡ []
-unfolding entriesOf
-entries-none S e p = refl
-
-pub entries-length : (S : Shape) (e p : ℕ) (rs : List Raw) → length (entriesOf S e p rs) ≡ length rs
-unfolding entriesOf
-entries-length S e p [] = refl
-entries-length S e p (r ∷ rs) = ap suc (entries-length S e (p + r .frame .size) rs)
 
 -- ---- records
 
@@ -117,7 +103,7 @@ module _ (g : Format) (e : ℕ) (image : List ℕ) (start end : ℕ) where
 
   module _ {d out : List ℕ} {p at : ℕ} {shut : Bool} (fits : length all * 64 ≤ length d) (w : Filling d out p at shut) where
     few : length (w .made) + length (entriesOf (shape g) e p (w .pass .todo)) ≡ length all
-    few = sym (length-append (w .made) (entriesOf (shape g) e p (w .pass .todo))) ∙ sym (ap length (w .joined)) ∙ entries-length (shape g) e start all
+    few = sym (length-append (w .made) (entriesOf (shape g) e p (w .pass .todo))) ∙ sym (ap length (w .joined)) ∙ entries-count (shape g) e start all
 
     pub filling-length : length out ≡ length d
     filling-length = ap length (w .is) ∙ length-over d 0 (recordsBytes (w .made)) (omega (arith, few, length-records (w .made)))
@@ -177,7 +163,7 @@ module _ (g : Format) (e : ℕ) (image : List ℕ) (start end : ℕ) where
         let same : entries ≡ w .made = w .joined ∙ ap (λ (rs : List Raw). w .made ++ entriesOf (shape g) e p rs) none ∙ ap (λ (l : List Entry). w .made ++ l) (entries-none (shape g) e p) ∙ append-nil (w .made) in
         w .is
         ∙ ap (λ (xs : List Entry). over d 0 (recordsBytes xs)) (sym same)
-        ∙ sym (copied-over d 0 (recordsBytes entries) (omega (arith, length-records entries, entries-length (shape g) e start all, fits)))
+        ∙ sym (copied-over d 0 (recordsBytes entries) (omega (arith, length-records entries, entries-count (shape g) e start all, fits)))
       where
         go : (x : Next) → next (shape g) shut (part p (end - p) image) ≡ x → hereBy x (shape g) e p (part p (end - p) image) ≡ Over → w .pass .todo ≡ []
         go (Framed f) n q = let z : _≡_ {A = ℕ} 0 1 = cc in absurd (omega arith)

@@ -20,6 +20,7 @@ use Rattle.layout.specs.Read.{Read, refused, readImage}
 use Rattle.layout.specs.Calls.{Step, told, toldLookup, entriesOf, entryAt, moved, stepFrom}
 use Rattle.layout.specs.Write.{word}
 use Rattle.laws.specs.Passes.{walked, IsDone, rawsIn}
+use Rattle.laws.proofs.Records.{entries-count}
 use Rattle.accept.specs.declared.Room.{Room}
 use Rattle.accept.specs.declared.Taken.the-variants.{Is, Isnt}
 use Rattle.accept.specs.Taken.{taken}
@@ -31,7 +32,7 @@ use Rattle.records.specs.Packed.{packed}
 use Rattle.records.specs.Words.{wordsBytes, recordBytes, recordsBytes}
 use Rattle.records.proofs.Words.{length-words}
 use Rattle.boardid.specs.Exports.{Given, kept, recorded, entryCall, walkFormat, walkEdition, walkEntry, walkAt, Walked, unmoved, steppedTo, stepped, stepCall, recordedAll, listedBy, listCall}
-use Rattle.boardid.proofs.Filling.{entries-length, length-record, length-records}
+use Rattle.boardid.proofs.Filling.{length-record, length-records}
 
 -- the packed answer does not show the entries that are given
 pub counted : (n : ℕ) (es : List Entry) → packed (told n (partAt 0 0) []) ≡ packed (told n (partAt 0 0) es)
@@ -134,7 +135,7 @@ module _ (f e : ℕ) (img m : List ℕ) where
     are = sym (ap rawsIn (took f e img room q .walks))
 
     many : length given ≡ room .count
-    many = entries-length (shape (room .format)) e (room .start) raws ∙ ap length (sym are) ∙ sym (took f e img room q .counts)
+    many = entries-count (shape (room .format)) e (room .start) raws ∙ ap length (sym are) ∙ sym (took f e img room q .counts)
 
     listed : listCall f e img m ≡ recordedAll given m
     unfolding listCall
@@ -152,7 +153,7 @@ module _ (f e : ℕ) (img m : List ℕ) where
     pub list-fills : room .count ≤ length m / 64 → Fills
     list-fills le =
         let t = took f e img room q in
-        let enough : length raws * 64 ≤ length m = omega (arith, le, many, entries-length (shape (room .format)) e (room .start) raws) in
+        let enough : length raws * 64 ≤ length m = omega (arith, le, many, entries-count (shape (room .format)) e (room .start) raws) in
         record {
           bound = t .bound;
           done = rw (t .walks) tt;

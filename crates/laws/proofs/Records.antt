@@ -8,6 +8,7 @@ use native.Mathlib.Omega.{arith}
 use lib.ListN.{length, take, drop, length-append, length-drop}
 use lib.Seq.{drop-append-add, drop-append-le, take-append-le}
 use Rattle.layout.specs.declared.Entry.{Entry}
+use Rattle.layout.specs.declared.Frame.{Frame}
 use Rattle.layout.specs.declared.Part.{Part}
 use Rattle.layout.specs.Bytes.{part, partAt}
 use Rattle.layout.specs.Shape.{Shape}
@@ -85,3 +86,18 @@ module _ {S : Shape} {G : Grammar} (L : Laws S G) where
       let here : p + r .frame .val + r .frame .vlen ≡ p + r .frame .size = omega (arith, w .valueLast) in
       let there : p + length (r .bytes ++ flat rs) ≡ p + r .frame .size + length (flat rs) = omega (arith, length-append (r .bytes) (flat rs), raw-size (fs .1)) in
       (refl, k .0, k .1, rw (here, there) (records-tile e (S .last (r .frame .code)) rs (p + r .frame .size) (fs .2)))
+
+-- ---- one record for each entry
+
+pub entries-none : (S : Shape) (e p : ℕ) → entriesOf S e p [] ≡ []
+unfolding entriesOf
+entries-none S e p = refl
+
+pub entries-more : (S : Shape) (e p : ℕ) (r : Raw) (rs : List Raw) (f : Frame) → r .frame ≡ f → entriesOf S e p (r ∷ rs) ≡ entryOf S e p r ∷ entriesOf S e (p + f .size) rs
+unfolding entriesOf
+entries-more S e p r rs f z = rw (← z)
+
+pub entries-count : (S : Shape) (e p : ℕ) (rs : List Raw) → length (entriesOf S e p rs) ≡ length rs
+unfolding entriesOf
+entries-count S e p [] = refl
+entries-count S e p (r ∷ rs) = ap suc (entries-count S e (p + r .frame .size) rs)

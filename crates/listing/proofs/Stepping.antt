@@ -24,6 +24,7 @@ use Rattle.laws.specs.Grammar.{grammar}
 use Rattle.laws.specs.Passes.{walked, rawsIn}
 use Rattle.laws.proofs.Formats.{laws}
 use Rattle.laws.proofs.Frames.{rawOf}
+use Rattle.laws.proofs.Records.{entries-none, entries-more, entries-count}
 use Rattle.laws.proofs.Passes.{Passing, First, pass-first, pass-on, pass-ends, pass-unbroken}
 use Rattle.accept.specs.declared.Room.{Room}
 use Rattle.accept.specs.declared.Taken.{Taken}
@@ -51,19 +52,6 @@ cursor-on g e image shut p end f q =
     ap (λ (h : Here). onwardBy h (cursorAt g e image shut p end) image) z
 
 -- ---- all of them
-
-entries-more : (S : Shape) (e p : ℕ) (r : Raw) (rs : List Raw) (f : Frame) → r .frame ≡ f → entriesOf S e p (r ∷ rs) ≡ entryOf S e p r ∷ entriesOf S e (p + f .size) rs
-unfolding entriesOf
-entries-more S e p r rs f z = rw (← z)
-
-entries-none : (S : Shape) (e p : ℕ) → entriesOf S e p [] ≡ []
-unfolding entriesOf
-entries-none S e p = refl
-
-entries-length : (S : Shape) (e p : ℕ) (rs : List Raw) → length (entriesOf S e p rs) ≡ length rs
-unfolding entriesOf
-entries-length S e p [] = refl
-entries-length S e p (r ∷ rs) = ap suc (entries-length S e (p + r .frame .size) rs)
 
 no-length : (rs : List Raw) → length rs ≡ 0 → rs ≡ []
 no-length [] q = refl
@@ -156,7 +144,7 @@ lists-all f e image rs = by-taken (taken f e image) refl
         let c = beginning (taken f e image) e image in
         let first = pass-first g image (room .start) (room .end) (w .bound) (rw (w .walks) tt) in
         let todo : first .pass .todo ≡ w .entries = first .todo ∙ ap rawsIn (w .walks) in
-        let count : length es ≡ room .count = entries-length (shape g) e (room .start) (w .entries) ∙ sym (w .counts) in
+        let count : length es ≡ room .count = entries-count (shape g) e (room .start) (w .entries) ∙ sym (w .counts) in
         let shown-all : from (shownBy f e image) 0 (room .count) ≡ es =
         lists g e image (room .start) (room .end) c (room .count) 0 (room .start) false (first .pass) (begins f e image room q) (ap length todo ∙ sym (w .counts))
         ∙ ap (entriesOf (shape g) e (room .start)) todo in

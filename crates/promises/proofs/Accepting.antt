@@ -17,16 +17,10 @@ use Rattle.layout.specs.Read.{Read, accepted, readImage}
 use Rattle.layout.specs.Calls.{entriesOf, checkImage, listEntries}
 use Rattle.laws.specs.Contents.{said}
 use Rattle.laws.proofs.Images.{Accepts}
-use Rattle.laws.proofs.Records.{records-said}
+use Rattle.laws.proofs.Records.{records-said, entries-count}
 use Rattle.laws.proofs.Formats.{laws}
 use Rattle.laws.proofs.Calls.{Reading}
 use Rattle.promises.specs.Words.{Lists, Reads}
-
--- as many records as entries
-pub entries-count : (S : Shape) (e p : ℕ) (rs : List Raw) → length (entriesOf S e p rs) ≡ length rs
-unfolding entriesOf
-entries-count S e p [] = refl
-entries-count S e p (r ∷ rs) = ap suc (entries-count S e (p + r .frame .size) rs)
 
 module _ (f e : ℕ) (image : List ℕ) (g : Format) (start : ℕ) (rs : List Raw) (r : Reading f e image g start rs) where
   pub accepts : checkImage f e image ≡ Accepted (length rs)

@@ -14,7 +14,8 @@ use Rattle.laws.proofs.Formats.{laws}
 use Rattle.laws.proofs.Images.{Accepts}
 use Rattle.laws.proofs.Calls.{Reading, Found, check-found}
 use Rattle.promises.specs.Listing.{ListOf, Listing}
-use Rattle.promises.proofs.Accepting.{entries-count, lists}
+use Rattle.laws.proofs.Records.{entries-count}
+use Rattle.promises.proofs.Accepting.{lists}
 
 list-of : (f e : ℕ) (image : List ℕ) (n : ℕ) → Found f e image n → ListOf f e image n
 list-of f e image n x =

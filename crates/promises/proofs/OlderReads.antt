@@ -19,7 +19,8 @@ use Rattle.laws.specs.Contents.{said}
 use Rattle.laws.proofs.Judging.{names-up}
 use Rattle.laws.proofs.Calls.{Reading, Found, check-found}
 use Rattle.promises.specs.OlderReads.{named, Alike, AllAlike, none, also, Older, OlderReads}
-use Rattle.promises.proofs.Accepting.{entries-count, accepts, lists}
+use Rattle.laws.proofs.Records.{entries-count}
+use Rattle.promises.proofs.Accepting.{accepts, lists}
 use Rattle.promises.proofs.Older.{older-reading}
 
 module _ (f o n : ℕ) (image : List ℕ) (g : Format) (k : chosen f o ≡ Known g) (le : o ≤ n) where
