@@ -7,21 +7,18 @@ use mathlib.Core.Bool.{Bool, true, false, _&&_}
 use native.Mathlib.Omega.{arith}
 use lib.ListN.{length, getD, set, take, replicate}
 use Rattle.layout.specs.declared.Format.{Format}
-use Rattle.layout.specs.declared.Format.the-variants.{Fboss, Vpd, Tiny}
 use Rattle.layout.specs.declared.Frame.{Frame}
 use Rattle.layout.specs.declared.Next.the-variants.{Framed, Ended}
 use Rattle.layout.specs.Bytes.{if, part}
 use Rattle.layout.specs.Shape.{Shape, Label, next}
-use Rattle.layout.specs.Fboss.{fboss}
-use Rattle.layout.specs.Vpd.{vpd}
-use Rattle.layout.specs.Tiny.{tiny}
 use Rattle.layout.specs.Editions.{shape, names}
 use Rattle.layout.specs.Walk.{Raw, Content, content, labelOf, flat}
 use Rattle.layout.specs.Read.{seenBefore, readerRule, fault, Judged, fine, faulty, orElse, judge, complete, codesOf}
-use Rattle.laws.specs.Grammar.{grammar, Each, none, also}
+use Rattle.laws.specs.Grammar.{grammar}
 use Rattle.laws.specs.Marked.{allMarked}
 use Rattle.laws.specs.Passes.{walked, IsDone, rawsIn, labels, before}
 use Rattle.laws.proofs.Marks.{Marks, none-marked, one-marked, marked-complete}
+use Rattle.laws.proofs.Names.{required-bytes}
 use Rattle.laws.proofs.Frames.{rawOf, framed-in}
 use Rattle.laws.proofs.Records.{Placed, raw-placed}
 use Rattle.laws.proofs.Passes.{Passing, Onward, pass-on, pass-first, before-past, raw-code, part-byte, part-most, part-within}
@@ -159,12 +156,6 @@ module _ (f : Format) (e : ℕ) (image : List ℕ) (start end p : ℕ) (shut : B
           isMarked = rw codes (one-marked (codesOf (w .pass .past)) marks (x .code) lt (w .isMarked));
           left = judged-one ∙ (rw none (ap₂ (λ (l : List Label) (t : List Raw). judge (shape f) e l t (p + x .size)) (sym seen) (sym (o .todoOn))));
         }
-
-required-bytes : (f : Format) → Each (λ c. c < 256) (shape f .required)
-unfolding fboss vpd tiny
-required-bytes Fboss = also {x = 1} (omega arith) (also {x = 8} (omega arith) (also {x = 9} (omega arith) (also {x = 10} (omega arith) (also {x = 11} (omega arith) none))))
-required-bytes Vpd = none
-required-bytes Tiny = none
 
 -- the pass came to its end: all entries are fine, and the marks tell whether they are complete
 pub judged-end : (f : Format) (e : ℕ) (image : List ℕ) (start end p : ℕ) (shut : Bool) (marks : List ℕ) (w : Judging f e image start end p shut marks) → w .pass .todo ≡ [] →

@@ -7,18 +7,16 @@ use mathlib.Core.Bool.{Bool, true, false, _&&_}
 use native.Mathlib.Omega.{arith}
 use lib.ListN.{length, take}
 use lib.Dec.{ltb, eqb}
-use borrow.Author.Tests.{lt-ltb, le-ltb, ne-eqb}
+use borrow.Author.Tests.{lt-ltb, le-ltb}
 use Rattle.layout.specs.declared.Format.{Format}
-use Rattle.layout.specs.declared.Format.the-variants.{Fboss, Vpd, Tiny}
+use Rattle.layout.specs.declared.Format.the-variants.{Vpd}
 use Rattle.layout.specs.declared.Frame.{Frame}
 use Rattle.layout.specs.declared.Next.the-variants.{Framed}
-use Rattle.layout.specs.Bytes.{if, oneOf, sameBytes, part}
-use Rattle.layout.specs.Shape.{Shape, Label, next}
-use Rattle.layout.specs.Fboss.{fboss}
+use Rattle.layout.specs.Bytes.{if, sameBytes, part}
+use Rattle.layout.specs.Shape.{Label, next}
 use Rattle.layout.specs.Vpd.{vpd, vpdTwice}
-use Rattle.layout.specs.Tiny.{tiny}
 use Rattle.layout.specs.Editions.{shape}
-use Rattle.layout.specs.Walk.{Raw, content, labelOf}
+use Rattle.layout.specs.Walk.{Raw, content}
 use Rattle.layout.specs.Read.{same, seenBefore, codesOf}
 use Rattle.laws.specs.Grammar.{grammar}
 use Rattle.laws.specs.Marked.{marked}
@@ -26,22 +24,22 @@ use Rattle.laws.specs.Passes.{walked, rawsIn, labels, before}
 use Rattle.laws.proofs.Frames.{rawOf, framed-in}
 use Rattle.laws.proofs.Records.{raw-placed}
 use Rattle.laws.proofs.Marks.{Marks}
+use Rattle.laws.proofs.Seen as seen
+use Rattle.laws.proofs.Seen.{labelCodes, AlwaysTwice}
 use Rattle.laws.proofs.Passes.{Passing, Onward, pass-on, part-within}
 use Rattle.laws.proofs.Formats.{laws}
 
 -- ---- by code
 
-and-true : (b : Bool) → b && true ≡ b
-and-true true = refl
-and-true false = refl
+label-codes : (rs : List Raw) → codesOf rs ≡ labelCodes (labels rs)
+unfolding content
+label-codes [] = refl
+label-codes (r ∷ rs) = ap (λ (l : List ℕ). r .frame .code ∷ l) (label-codes rs)
 
--- where two entries of one code always come twice, an entry is seen exactly where its code is among those before it
-pub seen-codes : (S : Shape) (a : Label) (rs : List Raw) → ((b : Label) → S .twice a b ≡ true) → seenBefore S (labels rs) a ≡ oneOf (codesOf rs) (a .code)
-unfolding seenBefore oneOf content
-seen-codes S a [] t = refl
-seen-codes S a (r ∷ rs) t =
-    rw (t (labelOf (content r)), and-true (eqb (a .code) (r .frame .code)))
-    (ap (λ (x : Bool). if (eqb (a .code) (r .frame .code)) (λ _. true) (λ _. x)) (seen-codes S a rs t))
+-- a marked code is one that was seen
+pub marked-seen : (f : Format) (c : ℕ) (key : List ℕ) (rs : List Raw) (marks : List ℕ) → AlwaysTwice f c → c < 256 → Marks (codesOf rs) marks →
+    marked marks c ≡ seenBefore (shape f) (labels rs) (record { code = c; key = key })
+marked-seen f c key rs marks t lt m = seen.marked-seen f c key (labels rs) marks t lt (rw (label-codes rs) at m)
 
 -- ---- by key
 
@@ -118,39 +116,3 @@ pub look-empty : (image : List ℕ) (start end p : ℕ) (key : List ℕ) (q : �
     seenBefore (shape Vpd) (labels (before (rawsIn (walked Vpd image start end)) start p)) (keyed key) ≡ false
 unfolding seenBefore before
 look-empty image start end p key q w e = w .left ∙ ap (λ (l : List Raw). seenBefore (shape Vpd) (labels (before l q p)) (keyed key)) e
-
--- ---- by the marks
-
-fboss-twice : (a b : Label) → shape Fboss .twice a b ≡ true
-unfolding fboss
-fboss-twice a b = refl
-
-tiny-twice : (a b : Label) → shape Tiny .twice a b ≡ true
-unfolding tiny
-tiny-twice a b = refl
-
-vpd-twice : (a b : Label) → (a .code ≡ 1 → ⊥) → shape Vpd .twice a b ≡ true
-unfolding vpd vpdTwice
-vpd-twice a b n = rw (ne-eqb (a .code) 1 n)
-
--- two entries of this code always come twice
-pub AlwaysTwice : Format → ℕ → Type 0
-AlwaysTwice f c = (key : List ℕ) (b : Label) → shape f .twice (record { code = c; key = key }) b ≡ true
-
-pub fboss-always : (c : ℕ) → AlwaysTwice Fboss c
-unfolding AlwaysTwice
-fboss-always c key b = fboss-twice (record { code = c; key = key }) b
-
-pub tiny-always : (c : ℕ) → AlwaysTwice Tiny c
-unfolding AlwaysTwice
-tiny-always c key b = tiny-twice (record { code = c; key = key }) b
-
-pub vpd-always : (c : ℕ) → (c ≡ 1 → ⊥) → AlwaysTwice Vpd c
-unfolding AlwaysTwice
-vpd-always c n key b = vpd-twice (record { code = c; key = key }) b n
-
--- a marked code is one that was seen
-pub marked-seen : (f : Format) (c : ℕ) (key : List ℕ) (rs : List Raw) (marks : List ℕ) → AlwaysTwice f c → c < 256 → Marks (codesOf rs) marks →
-    marked marks c ≡ seenBefore (shape f) (labels rs) (record { code = c; key = key })
-unfolding AlwaysTwice
-marked-seen f c key rs marks t lt m = m .same c lt ∙ sym (seen-codes (shape f) (record { code = c; key = key }) rs (t key))

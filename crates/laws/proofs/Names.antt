@@ -1,4 +1,4 @@
--- A code that an edition names is a byte.
+-- A code that an edition names is a byte, and so is one that an image must have.
 -- Assumes nothing.
 use Prim.Native.Nat.{ℕ, _≤_, _<_}
 use mathlib.Core.Path.{_≡_, refl}
@@ -33,3 +33,9 @@ unfolding names fboss vpd tiny
 named-byte Fboss e c h = named-below (fboss .namings) e c (also (omega arith) (also (omega arith) none)) h
 named-byte Vpd e c h = named-below (vpd .namings) e c (also (omega arith) (also (omega arith) none)) h
 named-byte Tiny e c h = named-below (tiny .namings) e c (also (omega arith) (also (omega arith) (also (omega arith) (also (omega arith) none)))) h
+
+pub required-bytes : (f : Format) → Each (λ c. c < 256) (shape f .required)
+unfolding fboss vpd tiny
+required-bytes Fboss = also {x = 1} (omega arith) (also {x = 8} (omega arith) (also {x = 9} (omega arith) (also {x = 10} (omega arith) (also {x = 11} (omega arith) none))))
+required-bytes Vpd = none
+required-bytes Tiny = none

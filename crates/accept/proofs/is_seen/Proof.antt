@@ -5,7 +5,8 @@ use borrow.Author.Needs.{needs}
 use denote.Ref.{now}
 use Rattle.layout.specs.declared.Format.the-variants.{Fboss, Vpd, Tiny}
 use Rattle.laws.specs.Passes.{walked, rawsIn, before}
-use Rattle.accept.proofs.Seen.{AlwaysTwice, fboss-always, tiny-always, vpd-always, marked-seen}
+use Rattle.laws.proofs.Seen.{AlwaysTwice, fboss-always, tiny-always, vpd-always}
+use Rattle.accept.proofs.Seen.{marked-seen}
 use Rattle.accept.proofs.is_seen.Statement.{statement}
 use Rattle.accept.proofs.is_seen.Tie as tie
 

@@ -1,0 +1,57 @@
+-- Whether an entry comes a second time by its code alone: where two entries of its code always come twice, marks of the codes before it tell.
+-- Assumes nothing.
+use Prim.Native.Nat.{ℕ, _<_}
+use mathlib.Core.Path.{_≡_, refl, ap, sym, _∙_}
+use mathlib.Core.List.{List, [], _∷_}
+use mathlib.Core.Bool.{Bool, true, false, _&&_}
+use lib.Dec.{eqb}
+use borrow.Author.Tests.{ne-eqb}
+use Rattle.layout.specs.declared.Format.{Format}
+use Rattle.layout.specs.declared.Format.the-variants.{Fboss, Vpd, Tiny}
+use Rattle.layout.specs.Bytes.{if, oneOf}
+use Rattle.layout.specs.Shape.{Shape, Label}
+use Rattle.layout.specs.Fboss.{fboss}
+use Rattle.layout.specs.Vpd.{vpd, vpdTwice}
+use Rattle.layout.specs.Tiny.{tiny}
+use Rattle.layout.specs.Editions.{shape}
+use Rattle.layout.specs.Read.{seenBefore}
+use Rattle.laws.specs.Marked.{marked}
+use Rattle.laws.proofs.Marks.{Marks}
+
+and-true : (b : Bool) → b && true ≡ b
+and-true true = refl
+and-true false = refl
+
+abbrev pub labelCodes : List Label → List ℕ
+labelCodes [] = []
+labelCodes (b ∷ bs) = b .code ∷ labelCodes bs
+
+-- where two entries of one code always come twice, an entry is seen exactly where its code is among those before it
+seen-codes : (S : Shape) (a : Label) (seen : List Label) → ((b : Label) → S .twice a b ≡ true) → seenBefore S seen a ≡ oneOf (labelCodes seen) (a .code)
+unfolding seenBefore oneOf
+seen-codes S a [] t = refl
+seen-codes S a (b ∷ bs) t =
+    rw (t b, and-true (eqb (a .code) (b .code)))
+    (ap (λ (x : Bool). if (eqb (a .code) (b .code)) (λ _. true) (λ _. x)) (seen-codes S a bs t))
+
+-- two entries of this code always come twice
+pub AlwaysTwice : Format → ℕ → Type 0
+AlwaysTwice f c = (key : List ℕ) (b : Label) → shape f .twice (record { code = c; key = key }) b ≡ true
+
+pub fboss-always : (c : ℕ) → AlwaysTwice Fboss c
+unfolding AlwaysTwice fboss
+fboss-always c key b = refl
+
+pub tiny-always : (c : ℕ) → AlwaysTwice Tiny c
+unfolding AlwaysTwice tiny
+tiny-always c key b = refl
+
+pub vpd-always : (c : ℕ) → (c ≡ 1 → ⊥) → AlwaysTwice Vpd c
+unfolding AlwaysTwice vpd vpdTwice
+vpd-always c n key b = rw (ne-eqb c 1 n)
+
+-- a marked code is one that was seen
+pub marked-seen : (f : Format) (c : ℕ) (key : List ℕ) (seen : List Label) (marks : List ℕ) → AlwaysTwice f c → c < 256 → Marks (labelCodes seen) marks →
+    marked marks c ≡ seenBefore (shape f) seen (record { code = c; key = key })
+unfolding AlwaysTwice
+marked-seen f c key seen marks t lt m = m .same c lt ∙ sym (seen-codes (shape f) (record { code = c; key = key }) seen (t key))
