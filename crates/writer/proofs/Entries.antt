@@ -7,13 +7,11 @@ use native.Mathlib.Omega.{arith}
 use lib.ListN.{length, getD, take, drop, length-append, take-append-drop}
 use lib.Seq.{take-all}
 use Rattle.layout.specs.declared.Field.{Field}
-use Rattle.layout.specs.declared.Format.{Format}
 use Rattle.layout.specs.Shape.{Shape}
-use Rattle.layout.specs.Editions.{shape}
 use Rattle.layout.specs.Walk.{Content}
 use Rattle.layout.specs.Read.{limit}
-use Rattle.layout.specs.Write.{fieldAt, fieldContent, fieldsIn, contentsOf, entryBytes, entriesBytes}
-use Rattle.laws.specs.Grammar.{Each, none, also}
+use Rattle.layout.specs.Write.{fieldAt, fieldContent, fieldsIn, entryBytes, entriesBytes}
+use Rattle.laws.specs.Grammar.{none, also}
 use Rattle.output.specs.Lengths.{capped}
 use Rattle.output.specs.Placing.{over, copied, openingPlaced, valuePlaced}
 use Rattle.output.proofs.Lengths.{capped-min}

@@ -13,10 +13,10 @@ use Rattle.writer.proofs.put_fields.Statement.{statement}
 use Rattle.writer.proofs.put_fields.Tie as tie
 
 abbrev Inv-loop : tie.InvT-loop
-Inv-loop out₀ start format list values n at₀ i₀ out at i = Putting (shape format) values list out₀ start out at i
+Inv-loop out₀ start format fields values n at₀ i₀ out at i = Putting (shape format) values fields out₀ start out at i
 
 abbrev μ-loop : tie.MeasureT-loop
-μ-loop out₀ start format list values n at₀ i₀ out at i = n - i
+μ-loop out₀ start format fields values n at₀ i₀ out at i = n - i
 
 count-fields-requires : tie.Need-count-fields-requires Inv-loop μ-loop
 count-fields-requires c κs = tt
@@ -24,7 +24,7 @@ count-fields-requires c κs = tt
 loop-holds : tie.Need-loop-holds Inv-loop μ-loop
 loop-holds c =
     let a = c .before .before .before .before .args in
-    putting-first (shape (a .format)) (now (a .values)) (now (a .list)) (now (a .out)) (a .start) (c .before .before .before .before .pre .1 .1)
+    putting-first (shape (a .format)) (now (a .values)) (now (a .fields)) (now (a .out)) (a .start) (c .before .before .before .before .pre .1 .1)
 
 field-at-requires : tie.Need-field-at-requires Inv-loop μ-loop
 field-at-requires c κs = tt
@@ -34,12 +34,12 @@ put-field-requires c κs =
     let st = c .before .before .before .before .before .before .before .before in
     let a = st .args in
     let l = c .before .before .before .loop in
-    let lt : l .i < length (fieldsIn (now (a .list))) = omega (arith, c .before .before .before .before .count-fields .ensures) in
+    let lt : l .i < length (fieldsIn (now (a .fields))) = omega (arith, c .before .before .before .before .count-fields .ensures) in
     let S = shape (a .format) in
     let values = now (a .values) in
-    let room = putting-room S values (now (a .list)) (now (a .out)) (a .start) (st .pre .1 .1) (l .out) (l .at) (l .i) (l .inv) lt in
-    let long = putting-length S values (now (a .list)) (now (a .out)) (a .start) (st .pre .1 .1) (l .out) (l .at) (l .i) (l .inv) in
-    rw (c .before .field-at .ensures) (puttable-at S values (fieldsIn (now (a .list))) (l .i) (fieldAt []) (st .pre .0) lt, (omega (arith, st .pre .1 .0), room))
+    let room = putting-room S values (now (a .fields)) (now (a .out)) (a .start) (st .pre .1 .1) (l .out) (l .at) (l .i) (l .inv) lt in
+    let long = putting-length S values (now (a .fields)) (now (a .out)) (a .start) (st .pre .1 .1) (l .out) (l .at) (l .i) (l .inv) in
+    rw (c .before .field-at .ensures) (puttable-at S values (fieldsIn (now (a .fields))) (l .i) (fieldAt []) (st .pre .0) lt, (omega (arith, st .pre .1 .0), room))
 
 add-i : tie.Need-add-i Inv-loop μ-loop
 add-i c = search needs
@@ -52,8 +52,8 @@ loop-again c =
     let st = c .before .before .before .before .before .before .before .before .before .before .before in
     let a = st .args in
     let l = c .before .before .before .before .before .before .loop in
-    let lt : l .i < length (fieldsIn (now (a .list))) = omega (arith, c .before .before .before .before .before .before .before .count-fields .ensures) in
-    putting-on (shape (a .format)) (now (a .values)) (now (a .list)) (now (a .out)) (a .start) (st .pre .1 .1) (l .out) (l .at) (l .i) (l .inv) lt
+    let lt : l .i < length (fieldsIn (now (a .fields))) = omega (arith, c .before .before .before .before .before .before .before .count-fields .ensures) in
+    putting-on (shape (a .format)) (now (a .values)) (now (a .fields)) (now (a .out)) (a .start) (st .pre .1 .1) (l .out) (l .at) (l .i) (l .inv) lt
     (rw (c .before .before .before .before .field-at .ensures) at (c .before .before .put-field .ensures .0)) (rw (c .before .before .before .before .field-at .ensures) at (c .before .before .put-field .ensures .1))
 
 same-length : tie.Need-same-length Inv-loop μ-loop
@@ -64,7 +64,7 @@ returns c =
     let st = c .before .before .before .before .before .before in
     let a = st .args in
     let l = c .before .loop in
-    putting-done (shape (a .format)) (now (a .values)) (now (a .list)) (now (a .out)) (a .start) (st .pre .1 .1) (l .out) (l .at) (l .i) (l .inv) (omega (arith, c .before .before .count-fields .ensures))
+    putting-done (shape (a .format)) (now (a .values)) (now (a .fields)) (now (a .out)) (a .start) (st .pre .1 .1) (l .out) (l .at) (l .i) (l .inv) (omega (arith, c .before .before .count-fields .ensures))
 
 pub put-fields-spec : {M : Type 1} → statement M
 put-fields-spec =

@@ -20,7 +20,7 @@ put-fields-requires : tie.Need-put-fields-requires
 put-fields-requires c κs =
     let st = c .before .before .before .before .before .before .before in
     let a = st .args in
-    let room = image-room (a .format) (fieldsBytes (shape (a .format)) (now (a .values)) (fieldsIn (now (a .list)))) (now (a .out)) (st .pre .1 .1) (sym (c .before .before .before .fits2 .ensures) ∙ c .before .before .if1 .taken) in
+    let room = image-room (a .format) (fieldsBytes (shape (a .format)) (now (a .values)) (fieldsIn (now (a .fields)))) (now (a .out)) (st .pre .1 .1) (sym (c .before .before .before .fits2 .ensures) ∙ c .before .before .if1 .taken) in
     (st .pre .0, (st .pre .1 .0, rw (c .header-length .ensures) room))
 
 finish-requires : tie.Need-finish-requires
@@ -36,7 +36,7 @@ returns : tie.Need-returns
 returns c =
     let st = c .before .before .before .before .before .before .before .before .before .before .before .before .before .before .before in
     let a = st .args in
-    image-put (a .format) (fieldsBytes (shape (a .format)) (now (a .values)) (fieldsIn (now (a .list)))) (now (a .out)) (st .pre .1 .1) (sym (c .before .before .before .before .before .before .before .before .before .before .before .fits2 .ensures) ∙ c .before .before .before .before .before .before .before .before .before .before .if1 .taken)
+    image-put (a .format) (fieldsBytes (shape (a .format)) (now (a .values)) (fieldsIn (now (a .fields)))) (now (a .out)) (st .pre .1 .1) (sym (c .before .before .before .before .before .before .before .before .before .before .before .fits2 .ensures) ∙ c .before .before .before .before .before .before .before .before .before .before .if1 .taken)
     (c .before .before .before .before .before .before .before .before .header-length .ensures) (c .before .before .before .before .before .before .before .put-fields .ensures) (c .before .before .before .finish .ensures) (c .image-length .ensures)
 
 refused-requires : tie.Need-refused-requires
@@ -46,7 +46,7 @@ returns-2 : tie.Need-returns-2
 returns-2 c =
     let st = c .before .before .before .before .before .before in
     let a = st .args in
-    image-not (a .format) (fieldsBytes (shape (a .format)) (now (a .values)) (fieldsIn (now (a .list)))) (now (a .out)) (st .pre .1 .1) (sym (c .before .before .fits2 .ensures) ∙ c .before .if1 .left) (c .refused .ensures)
+    image-not (a .format) (fieldsBytes (shape (a .format)) (now (a .values)) (fieldsIn (now (a .fields)))) (now (a .out)) (st .pre .1 .1) (sym (c .before .before .fits2 .ensures) ∙ c .before .if1 .left) (c .refused .ensures)
 
 pub put-image-spec : {M : Type 1} → statement M
 put-image-spec =
