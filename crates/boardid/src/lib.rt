@@ -177,3 +177,33 @@ pub extern "C" fn boardid_list(format: u32, edition: u32, image: &[u8], out: &mu
         }
     }
 }
+// ---- write and edit
+
+// The image of a field list, into the output.
+#[no_mangle]
+pub extern "C" fn boardid_write(
+    format: u32,
+    edition: u32,
+    fields: &[u8],
+    values: &[u8],
+    out: &mut [u8],
+) -> u64
+    ensures { λ r. ⌜ (r ≡ writeCall format edition (now (fields .entry)) (now (values .entry)) (now (out .entry)) .answer) × (now (out .exit) ≡ writeCall format edition (now (fields .entry)) (now (values .entry)) (now (out .entry)) .memory) ⌝ }
+{
+    records::pack_made(writer::write_image(out, format, edition, fields, values))
+}
+
+// The image with another value for entry n, into the output.
+#[no_mangle]
+pub extern "C" fn boardid_edit(
+    format: u32,
+    edition: u32,
+    image: &[u8],
+    n: u64,
+    value: &[u8],
+    out: &mut [u8],
+) -> u64
+    ensures { λ r. ⌜ (r ≡ editCall format edition (now (image .entry)) n (now (value .entry)) (now (out .entry)) .answer) × (now (out .exit) ≡ editCall format edition (now (image .entry)) n (now (value .entry)) (now (out .entry)) .memory) ⌝ }
+{
+    records::pack_made(editor::edit_entry(out, format, edition, image, n as usize, value))
+}

@@ -1,11 +1,13 @@
 // What a call's format and edition come to, and what stands at a place of an image, for any format.
 ghost use mathlib.Core.Path.{_≡_};
+ghost use mathlib.Core.Bool.{false};
 ghost use Prim.Native.Nat.{_-_, _*_, _<_};
 ghost use Rattle.layout.specs.Bytes.{part};
 ghost use Rattle.layout.specs.Shape.{next};
 ghost use Rattle.layout.specs.Editions.{shape, withEdition, chosen, names, kind};
 ghost use Rattle.layout.specs.Read.{sealed};
 ghost use Rattle.laws.specs.Marked.{allMarked};
+ghost use Rattle.frames.specs.Spots.{spotAt};
 use layout::Chosen;
 use layout::Format;
 use layout::Frame;
@@ -15,6 +17,12 @@ use layout::Length;
 use layout::Next;
 use layout::Opened;
 use layout::Reading;
+
+// Where an entry stands: its frame, and the place of its first byte.
+pub enum Spot {
+    At(Frame, usize),
+    Nowhere,
+}
 
 // A format, where the edition is known.
 fn with_edition(edition: u32, format: Format) -> Chosen
@@ -203,6 +211,34 @@ pub fn next_frame(format: Format, shut: bool, image: &[u8], p: usize, end: usize
         return frame_of(format, shut, part_of(image, p, 0));
     }
     frame_of(format, shut, part_of(image, p, end - p))
+}
+
+// Entry n of those that begin at start, in a room that ends before `end`.
+pub fn find_frame(format: Format, image: &[u8], start: usize, end: usize, n: usize) -> Spot
+    ensures { λ r. ⌜ r ≡ spotAt (shape format) (now (image .entry)) false start end n ⌝ }
+{
+    let mut p = start;
+    let mut left = n;
+    let mut shut = false;
+    loop {
+        let x = next_frame(format, shut, image, p, end);
+        match x {
+            Next::Framed(f) => {
+                if left == 0 {
+                    return Spot::At(f, p);
+                }
+                shut = is_last(format, f.code);
+                p += f.size;
+                left -= 1;
+            }
+            Next::Ended => {
+                return Spot::Nowhere;
+            }
+            Next::Broken(_) => {
+                return Spot::Nowhere;
+            }
+        }
+    }
 }
 
 // Whether the stored check is right, where the entries end at p.

@@ -33,7 +33,7 @@ use Rattle.accept.specs.Taken.{taken}
 use Rattle.reader.specs.declared.Here.{Here}
 use Rattle.reader.specs.declared.Here.the-variants.{Stands}
 use Rattle.reader.specs.Here.{hereAt}
-use Rattle.reader.proofs.Rooms.{Took, took, not-took}
+use Rattle.accept.proofs.Rooms.{took, not-took}
 use Rattle.listing.specs.declared.Cursor.{Cursor}
 use Rattle.listing.specs.Cursors.{fitting, answering, beginning, showing, onwardBy, onward, cursorAt, stepped, from, filled}
 

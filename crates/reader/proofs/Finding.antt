@@ -1,10 +1,12 @@
--- The search for entry n, and for the pool, along a pass over an image: where it stands, how it goes on, and what it finds.
+-- What the search for entry n finds; and the search for the pool along a pass over an image: where it stands, how it goes on, and what it finds.
 -- Assumes nothing.
-use Prim.Native.Nat.{ℕ, suc, _+_, _-_, _≤_, _<_}
+use Prim.Native.Nat.{ℕ, zero, suc, _+_, _-_, _≤_}
 use mathlib.Core.Path.{_≡_, refl, ap, sym, _∙_}
-use mathlib.Core.List.{List, [], _∷_}
+use mathlib.Core.List.{List, [], _∷_, _++_}
 use mathlib.Core.Bool.{Bool, false}
 use native.Mathlib.Omega.{arith}
+use native.Mathlib.Nat.{add-zero}
+use lib.ListN.{length, length-append}
 use borrow.Author.Tests.{eq-eqb, ne-eqb}
 use Rattle.layout.specs.declared.Format.{Format}
 use Rattle.layout.specs.declared.Format.the-variants.{Tiny}
@@ -14,13 +16,16 @@ use Rattle.layout.specs.declared.Lookup.the-variants.{Found, Missing}
 use Rattle.layout.specs.Bytes.{part, refusal}
 use Rattle.layout.specs.Shape.{Shape, next}
 use Rattle.layout.specs.Editions.{shape}
-use Rattle.layout.specs.Walk.{Raw, content}
+use Rattle.layout.specs.Walk.{Raw, flat, content}
 use Rattle.layout.specs.Calls.{nth, entryOf, entriesOf, noString, stringIn, poolString}
 use Rattle.laws.specs.Grammar.{grammar}
 use Rattle.laws.specs.Passes.{walked, IsDone, rawsIn}
 use Rattle.laws.proofs.Formats.{laws}
 use Rattle.laws.proofs.Passes.{Passing, Onward, pass-first, pass-on, pass-ends, pass-unbroken}
-use Rattle.reader.specs.Lies.{rawAt}
+use Rattle.frames.specs.declared.Spot.the-variants.{At, Nowhere}
+use Rattle.frames.specs.Spots.{spotAt}
+use Rattle.frames.proofs.Spots.{Sized, Spotted, spot-walked}
+use Rattle.reader.specs.Lies.{Lies, rawAt}
 use Rattle.reader.proofs.Lying.{framed-lies, value-at}
 
 -- a pass over the entries of a room
@@ -40,66 +45,41 @@ onward-raw g image start end p shut f w q =
 
 -- ---- entry n
 
-nth-here : (S : Shape) (e p : ℕ) (r : Raw) (rs : List Raw) (left : ℕ) → left ≡ 0 → nth (entriesOf S e p (r ∷ rs)) left ≡ Found (entryOf S e p r)
+nth-past : (S : Shape) (e p : ℕ) (past : List Raw) (raw : Raw) (after : List Raw) → Sized past →
+    nth (entriesOf S e p (past ++ (raw ∷ after))) (length past) ≡ Found (entryOf S e (p + length (flat past)) raw)
 unfolding nth entriesOf
-nth-here S e p r rs left z = rw z
+nth-past S e p [] raw after z = rw add-zero
+nth-past S e p (r ∷ past) raw after z =
+    let at : p + r .frame .size + length (flat past) ≡ p + length (r .bytes ++ flat past) = omega (arith, length-append (r .bytes) (flat past), z .0) in
+    nth-past S e (p + r .frame .size) past raw after (z .1) ∙ ap (λ (q : ℕ). Found (entryOf S e q raw)) at
 
-nth-on : (S : Shape) (e p : ℕ) (r : Raw) (rs : List Raw) (left k : ℕ) → left ≡ suc k → nth (entriesOf S e p (r ∷ rs)) left ≡ nth (entriesOf S e (p + r .frame .size) rs) k
+nth-none : (S : Shape) (e p : ℕ) (rs : List Raw) (n : ℕ) → length rs ≤ n → nth (entriesOf S e p rs) n ≡ Missing (refusal 13 0)
 unfolding nth entriesOf
-nth-on S e p r rs left k z = rw z
+nth-none S e p [] n le = refl
+nth-none S e p (r ∷ rs) zero le = absurd (omega arith)
+nth-none S e p (r ∷ rs) (suc n) le = nth-none S e (p + r .frame .size) rs n (omega arith)
 
-nth-none : (S : Shape) (e p left : ℕ) → nth (entriesOf S e p []) left ≡ Missing (refusal 13 0)
-unfolding nth entriesOf
-nth-none S e p left = refl
+module _ (g : Format) (e : ℕ) (image : List ℕ) (start end n : ℕ) (d : IsDone (walked g image start end)) where
+  abbrev entries : List Raw
+  entries = rawsIn (walked g image start end)
 
--- entry n of all is entry `left` of those from p on
-pub record Finding (g : Format) (e : ℕ) (image : List ℕ) (start end n p left : ℕ) (shut : Bool) : Type 0 where
-  pub pass : Pass g image start end p shut
-  pub same : nth (entriesOf (shape g) e start (rawsIn (walked g image start end))) n ≡ nth (entriesOf (shape g) e p (pass .todo)) left
+  -- the frame that is found is entry n's
+  pub nth-found : (f : Frame) (p : ℕ) → spotAt (shape g) image false start end n ≡ At f p →
+      Lies image p f × (nth (entriesOf (shape g) e start entries) n ≡ Found (entryOf (shape g) e p (rawAt image p f)))
+  nth-found f p q =
+      let w : Spotted (shape g) (grammar g) image end entries start n f p = rw q at (spot-walked g image start end n d) in
+      let x = framed-lies g (w .shut) image p end f (w .read) in (
+        x .lies,
+        ap (λ (rs : List Raw). nth (entriesOf (shape g) e start rs) n) (w .joined)
+            ∙ ap (nth (entriesOf (shape g) e start (w .past ++ (w .raw ∷ w .after)))) (w .counted)
+            ∙ nth-past (shape g) e start (w .past) (w .raw) (w .after) (w .sized)
+            ∙ ap (λ (a : ℕ). Found (entryOf (shape g) e a (w .raw))) (sym (w .place))
+            ∙ ap (λ (r : Raw). Found (entryOf (shape g) e p r)) (w .is ∙ ap (λ (bs : List ℕ). record { bytes = bs; frame = f }) (x .is)),
+      )
 
-pub finding-starts : (g : Format) (e : ℕ) (image : List ℕ) (start end n : ℕ) → start ≤ end → IsDone (walked g image start end) → Finding g e image start end n start n false
-finding-starts g e image start end n le d =
-    let w = pass-first g image start end le d in
-    record { pass = w .pass; same = ap (λ (rs : List Raw). nth (entriesOf (shape g) e start rs) n) (sym (w .todo)) }
-
-module _ {g : Format} {e : ℕ} {image : List ℕ} {start end n p left : ℕ} {shut : Bool} (w : Finding g e image start end n p left shut) where
-  -- it stands at the entry that is sought
-  pub finding-found : (f : Frame) → next (shape g) shut (part p (end - p) image) ≡ Framed f → left ≡ 0 →
-      nth (entriesOf (shape g) e start (rawsIn (walked g image start end))) n ≡ Found (entryOf (shape g) e p (rawAt image p f))
-  finding-found f q z =
-      let x = onward g image start end p shut f (w .pass) q in
-      w .same
-      ∙ ap (λ (rs : List Raw). nth (entriesOf (shape g) e p rs) left) (x .heads)
-      ∙ nth-here (shape g) e p (x .raw) (x .todo) left z
-      ∙ ap (λ (r : Raw). Found (entryOf (shape g) e p r)) (onward-raw g image start end p shut f (w .pass) q)
-
-  -- it passes an entry
-  pub finding-on : (f : Frame) → next (shape g) shut (part p (end - p) image) ≡ Framed f → 0 < left →
-      Finding g e image start end n (p + f .size) (left - 1) (shape g .last (f .code))
-  finding-on f q lt =
-      let x = onward g image start end p shut f (w .pass) q in
-      let on : nth (entriesOf (shape g) e p (x .raw ∷ x .todo)) left ≡ nth (entriesOf (shape g) e (p + x .raw .frame .size) (x .todo)) (left - 1)
-      = nth-on (shape g) e p (x .raw) (x .todo) left (left - 1) (omega arith) in
-      record {
-        pass = x .on;
-        same =
-            w .same
-            ∙ ap (λ (rs : List Raw). nth (entriesOf (shape g) e p rs) left) (x .heads)
-            ∙ on
-            ∙ ap (λ (h : Frame). nth (entriesOf (shape g) e (p + h .size) (x .todo)) (left - 1)) (x .frame)
-            ∙ ap (λ (rs : List Raw). nth (entriesOf (shape g) e (p + f .size) rs) (left - 1)) (sym (x .todoOn));
-      }
-
-  -- no entry is left
-  pub finding-over : next (shape g) shut (part p (end - p) image) ≡ Ended →
-      nth (entriesOf (shape g) e start (rawsIn (walked g image start end))) n ≡ Missing (refusal 13 0)
-  finding-over q =
-      w .same
-      ∙ ap (λ (rs : List Raw). nth (entriesOf (shape g) e p rs) left) (pass-ends (laws g) image start end (rawsIn (walked g image start end)) p shut (w .pass) q)
-      ∙ nth-none (shape g) e p left
-
-  pub finding-unbroken : {A : Type 0} (k : ℕ) → next (shape g) shut (part p (end - p) image) ≡ Broken k → A
-  finding-unbroken k q = absurd (pass-unbroken (laws g) image start end (rawsIn (walked g image start end)) p shut k (w .pass) q)
+  -- where none is found, there is no entry n
+  pub nth-missing : spotAt (shape g) image false start end n ≡ Nowhere → nth (entriesOf (shape g) e start entries) n ≡ Missing (refusal 13 0)
+  nth-missing q = nth-none (shape g) e start entries n (rw q at (spot-walked g image start end n d))
 
 -- ---- the pool
 

@@ -12,6 +12,7 @@ ghost use Rattle.reader.specs.Here.{hereAt};
 ghost use Rattle.reader.specs.Lies.{Lies, rawAt};
 ghost use Rattle.reader.specs.Walk.{stepWalk};
 use accept::Taken;
+use frames::Spot;
 use layout::Checked;
 use layout::Entry;
 use layout::Format;
@@ -158,30 +159,13 @@ fn nth_entry(
     end: usize,
     n: usize,
 ) -> Lookup
-    requires { ⌜ (start ≤ end) × IsDone (walked format (now image) start end) ⌝ }
+    requires { ⌜ IsDone (walked format (now image) start end) ⌝ }
     ensures { λ r. ⌜ r ≡ nth (entriesOf (shape format) edition start (rawsIn (walked format (now (image .entry)) start end))) n ⌝ }
 {
-    let mut p = start;
-    let mut left = n;
-    let mut shut = false;
-    loop {
-        let x = frames::next_frame(format, shut, image, p, end);
-        match x {
-            Next::Framed(f) => {
-                if left == 0 {
-                    return Lookup::Found(entry_of(format, edition, image, p, f));
-                }
-                shut = frames::is_last(format, f.code);
-                p += f.size;
-                left -= 1;
-            }
-            Next::Ended => {
-                return Lookup::Missing(refusal(13));
-            }
-            Next::Broken(_) => {
-                return Lookup::Missing(refusal(13));
-            }
-        }
+    let s = frames::find_frame(format, image, start, end, n);
+    match s {
+        Spot::At(f, p) => Lookup::Found(entry_of(format, edition, image, p, f)),
+        Spot::Nowhere => Lookup::Missing(refusal(13)),
     }
 }
 

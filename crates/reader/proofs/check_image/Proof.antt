@@ -6,7 +6,7 @@ use mathlib.Core.Path.{ap, sym, _∙_}
 use denote.Ref.{now}
 use Rattle.layout.specs.declared.Checked.the-variants.{Accepted}
 use Rattle.layout.specs.Calls.{checkImage}
-use Rattle.reader.proofs.Rooms.{took, not-took}
+use Rattle.accept.proofs.Rooms.{took, not-took}
 use Rattle.reader.proofs.check_image.Statement.{statement}
 use Rattle.reader.proofs.check_image.Tie as tie
 

@@ -7,7 +7,7 @@ use Rattle.layout.specs.Editions.{shape}
 use Rattle.layout.specs.Walk.{Walked}
 use Rattle.layout.specs.Calls.{nth, entriesOf, entryAt}
 use Rattle.laws.specs.Passes.{rawsIn}
-use Rattle.reader.proofs.Rooms.{took, not-took}
+use Rattle.accept.proofs.Rooms.{took, not-took}
 use Rattle.reader.proofs.entry_at.Statement.{statement}
 use Rattle.reader.proofs.entry_at.Tie as tie
 
@@ -26,7 +26,7 @@ nth-entry-requires c κs =
     let i = now (a .image) in
     let room = c .before .t2 .given .0 .0 in
     let w = took (a .format) (a .edition) i room (sym (c .before .before .before .take-image .ensures) ∙ c .before .t2 .given .1) in
-    (w .bound, rw (w .walks) tt)
+    rw (w .walks) tt
 
 returns : tie.Need-returns
 unfolding entryAt

@@ -7,7 +7,8 @@ use borrow.Author.Tests.{eq-eqb, ne-eqb}
 use Rattle.layout.specs.Walk.{Walked}
 use Rattle.layout.specs.Calls.{poolString, stringAt}
 use Rattle.laws.specs.Passes.{rawsIn}
-use Rattle.reader.proofs.Rooms.{took, not-took, tiny-walks}
+use Rattle.accept.proofs.Rooms.{took, not-took}
+use Rattle.reader.proofs.Rooms.{tiny-walks}
 use Rattle.reader.proofs.string_part.Statement.{statement}
 use Rattle.reader.proofs.string_part.Tie as tie
 

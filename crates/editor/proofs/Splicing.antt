@@ -1,0 +1,77 @@
+-- Bytes of entries laid into an output from where the header ends, their length, and their image.
+-- Assumes nothing.
+use Prim.Native.Nat.{ℕ, _+_, _≤_}
+use mathlib.Core.Path.{_≡_, ap, ap₂, sym, _∙_}
+use mathlib.Core.List.{List, _++_}
+use mathlib.Core.Bool.{Bool, true, false}
+use native.Mathlib.Omega.{arith}
+use lib.ListN.{length, length-append}
+use Rattle.layout.specs.declared.Format.{Format}
+use Rattle.layout.specs.declared.Made.the-variants.{Wrote}
+use Rattle.layout.specs.Bytes.{part, refusal}
+use Rattle.layout.specs.Shape.{Shape}
+use Rattle.layout.specs.Editions.{shape}
+use Rattle.layout.specs.Read.{limit}
+use Rattle.layout.specs.Write.{refuse, put, imageOf}
+use Rattle.output.specs.Lengths.{capped, sealedLength, fitsIn}
+use Rattle.output.specs.Placing.{copied, valuePlaced, finished}
+use Rattle.output.proofs.Lengths.{capped-min}
+use Rattle.output.proofs.Overlay.{part-over, copied-over, length-copied, copied-then}
+use Rattle.output.proofs.Putting.{fits-room, put-not, put-fits}
+use Rattle.output.proofs.Rooms.{value-copied}
+use Rattle.editor.specs.Here.{spliced}
+
+-- What was copied is read there.
+pub copied-stands : (d : List ℕ) (a : ℕ) (s : List ℕ) → a + length s ≤ length d → part a (length s) (copied d a s) ≡ s
+copied-stands d a s le = rw (copied-over d a s le) (part-over d a s (omega arith))
+
+module _ (S : Shape) (c : ℕ) (front v after : List ℕ) where
+  pub length-spliced : length (spliced S c front v after) ≡ length front + (length (S .lens c (length v)) + length v) + length after
+  unfolding spliced
+  length-spliced = simp length-append
+
+  -- Its length by sums that are cut off.
+  pub capped-spliced : {k m n : ℕ} → k ≡ capped (length (S .lens c (length v)) + length v) → m ≡ capped (length front + k) → n ≡ capped (m + length after) →
+      n ≡ capped (length (spliced S c front v after))
+  capped-spliced {k} {m} {n} p q r =
+      let l = length (S .lens c (length v)) + length v in
+      omega (arith, length-spliced, capped-min l, capped-min (length front + k), capped-min (m + length after), capped-min (length (spliced S c front v after)))
+
+  -- Three writes, each where the one before ends.
+  pub laid : (d : List ℕ) (a : ℕ) {d₁ d₂ d₃ : List ℕ} {at next : ℕ} → d₁ ≡ copied d a front → d₂ ≡ valuePlaced S d₁ at c v → d₃ ≡ copied d₂ next after →
+      at ≡ a + length front → next ≡ at + (length (S .lens c (length v)) + length v) → S .lengthRule c (length v) ≡ true → length d ≤ limit →
+      a + length (spliced S c front v after) ≤ length d → d₃ ≡ copied d a (spliced S c front v after)
+  unfolding spliced
+  laid d a {d₁ = d₁} {at = at} p q r ea en rule short fits =
+      let lens = S .lens c (length v) in
+      let same : length d₁ ≡ length d = ap length p ∙ length-copied d a front in
+      let l₁ = length-append lens v in
+      let l₂ = length-append front (lens ++ v) in
+      let l₃ = length-append (front ++ (lens ++ v)) after in
+      let valued = q ∙ value-copied S d₁ at c v rule (omega arith) in
+      copied-then d a (front ++ (lens ++ v)) after (copied-then d a front (lens ++ v) p valued (omega arith) ea) r fits (omega arith)
+
+-- The image of such entries, by the tests and writes that put it into the output.
+module _ (f : Format) (c : ℕ) (front v after out : List ℕ) {k m n : ℕ} {t : Bool} (p : k ≡ capped (length (shape f .lens c (length v)) + length v)) (q : m ≡ capped (length front + k)) (r : n ≡ capped (m + length after)) (test : t ≡ fitsIn (shape f) n (length out)) where
+  abbrev entries : List ℕ
+  entries = spliced (shape f) c front v after
+
+  tested : fitsIn (shape f) (capped (length entries)) (length out) ≡ t
+  tested = ap (λ (x : ℕ). fitsIn (shape f) x (length out)) (sym (capped-spliced (shape f) c front v after p q r)) ∙ sym test
+
+  pub spliced-not : t ≡ false → put (shape f) (imageOf (shape f) entries) out ≡ refuse (refusal 12 0) out
+  spliced-not no-room = put-not f entries out (tested ∙ no-room)
+
+  pub spliced-room : t ≡ true → length (shape f .header 0) + length entries ≤ length out
+  spliced-room fits = fits-room f (length entries) (length out) (tested ∙ fits)
+
+  pub spliced-put : t ≡ true → {d₁ d₂ : List ℕ} {l : ℕ} → d₁ ≡ copied out (length (shape f .header 0)) entries → d₂ ≡ finished (shape f) d₁ n → l ≡ capped (sealedLength (shape f) n) →
+      put (shape f) (imageOf (shape f) entries) out ≡ record { answer = Wrote l; memory = d₂ }
+  spliced-put fits {d₁ = d₁} laid seals long =
+      let h = length (shape f .header 0) in
+      let cut = capped-spliced (shape f) c front v after p q r in
+      let same : length d₁ ≡ length out = ap length laid ∙ length-copied out h entries in
+      let stands : part h (length entries) d₁ ≡ entries = ap (part h (length entries)) laid ∙ copied-stands out h entries (spliced-room fits) in
+      put-fits f entries out d₁ same stands (tested ∙ fits)
+      ∙ ap₂ (λ (x : ℕ) (y : List ℕ). record { answer = Wrote x; memory = y })
+      (sym (long ∙ ap (λ (x : ℕ). capped (sealedLength (shape f) x)) cut)) (sym (seals ∙ ap (finished (shape f) d₁) cut))
