@@ -27,7 +27,7 @@ use Rattle.accept.specs.Taken.{taken}
 use Rattle.output.specs.Placing.{over, copied}
 use Rattle.output.proofs.Overlay.{copied-over}
 use Rattle.reader.specs.declared.Walk.{Walk}
-use Rattle.reader.proofs.Rooms.{took, not-took}
+use Rattle.accept.proofs.Rooms.{took, not-took}
 use Rattle.records.specs.Packed.{packed}
 use Rattle.records.specs.Words.{wordsBytes, recordBytes, recordsBytes}
 use Rattle.records.proofs.Words.{length-words}
