@@ -5,7 +5,7 @@ use mathlib.Core.Path.{_≡_, sym}
 use mathlib.Core.List.{List}
 use mathlib.Core.Bool.{Bool}
 use native.Mathlib.Omega.{arith}
-use lib.ListN.{take, drop, length-take, length-drop}
+use lib.ListN.{take, drop}
 use lib.Seq.{take-take}
 use Rattle.layout.specs.declared.Format.{Format}
 use Rattle.layout.specs.declared.Frame.{Frame}
@@ -14,10 +14,11 @@ use Rattle.layout.specs.Bytes.{part}
 use Rattle.layout.specs.Shape.{next}
 use Rattle.layout.specs.Editions.{shape}
 use Rattle.layout.specs.Walk.{content}
-use Rattle.laws.proofs.Frames.{rawOf, framed-in, framed-raw}
+use Rattle.laws.proofs.Frames.{rawOf, framed-raw}
 use Rattle.laws.proofs.Records.{raw-placed}
 use Rattle.laws.proofs.Formats.{laws}
 use Rattle.laws.proofs.Passes.{part-on}
+use Rattle.frames.proofs.Spots.{framed-inside}
 use Rattle.reader.specs.Lies.{Lies, rawAt}
 
 -- the value's bytes stand where its record says
@@ -40,13 +41,11 @@ pub framed-lies : (g : Format) (shut : Bool) (image : List ℕ) (p end : ℕ) (f
 unfolding part
 framed-lies g shut image p end f q =
     let s = take (end - p) (drop p image) in
-    let i = framed-in (laws g) shut s f q in
+    let i = framed-inside g shut image p end f q in
     let w = raw-placed (laws g) (rawOf f s) (framed-raw (laws g) shut s f q) in
-    let l = length-take (end - p) (drop p image) in
-    let d = length-drop p image in
     record {
-      lies = record { inside = omega arith; keyIn = w .keyIn; valueLast = w .valueLast };
+      lies = record { inside = i .1; keyIn = w .keyIn; valueLast = w .valueLast };
       some = i .0;
-      bound = omega arith;
-      is = take-take (f .size) (end - p) (drop p image) (omega arith);
+      bound = i .2;
+      is = take-take (f .size) (end - p) (drop p image) (omega (arith, i .2));
     }
