@@ -90,10 +90,12 @@ fn field_fault(
     ensures { λ r. ⌜ r ≡ fieldFault (shape format) edition (now (values .entry)) shut (fieldLabels (shape format) (now (values .entry)) (take n (fieldsIn (now (fields .entry))))) x ⌝ }
 {
     let code = x.code;
-    if !frames::is_named(format, edition, code) {
+    let named = frames::is_named(format, edition, code);
+    let inside = fields::parts_inside(format, values, x);
+    if !named {
         return 14;
     }
-    if !fields::parts_inside(format, values, x) {
+    if !inside {
         return 13;
     }
     if shut {
