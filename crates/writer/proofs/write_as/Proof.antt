@@ -1,6 +1,6 @@
 -- `writer::write_as` meets its contract: what the judgement of the fields comes to.
 -- Assumes nothing.
-use mathlib.Core.Path.{refl, sym, _∙_}
+use mathlib.Core.Path.{refl}
 use denote.Ref.{now}
 use Rattle.layout.specs.Write.{fieldsIn}
 use Rattle.writer.proofs.Judged.{sound, sound-put, write-sound, write-unsound}
@@ -24,14 +24,13 @@ put-image-requires : tie.Need-put-image-requires
 put-image-requires c κs =
     let st = c .before .before .before .before .before .before .before .before in
     let a = st .args in
-    let s = sound (a .format) (a .edition) (fieldsIn (now (a .fields))) (now (a .values)) (c .before .before .j2 .given .0 .0) (sym (c .before .before .before .before .judge-fields .ensures) ∙ c .before .before .j2 .given .1) in
+    let s = sound (a .format) (a .edition) (fieldsIn (now (a .fields))) (now (a .values)) (c .before .before .before .before .judge-fields .ensures) (c .before .before .j2 .given .1) in
     (sound-put (a .format) (a .edition) (fieldsIn (now (a .fields))) (now (a .values)) s, (st .pre, s .cut))
 
 returns : tie.Need-returns
 returns c =
     let a = c .before .before .before .before .before .before .before .before .args in
-    let j = c .before .before .j .given in
-    rw (write-unsound (a .format) (a .edition) (fieldsIn (now (a .fields))) (now (a .values)) (now (a .out)) (j .0 .0) (j .0 .1 .0) (sym (c .before .before .before .before .judge-fields .ensures) ∙ j .1)) (c .refused .ensures, refl)
+    rw (write-unsound (a .format) (a .edition) (fieldsIn (now (a .fields))) (now (a .values)) (now (a .out)) (c .before .before .before .before .judge-fields .ensures) (c .before .before .j .given .1)) (c .refused .ensures, refl)
 
 same-length : tie.Need-same-length
 same-length c = search needs
@@ -39,8 +38,7 @@ same-length c = search needs
 returns-2 : tie.Need-returns-2
 returns-2 c =
     let a = c .before .before .before .before .before .before .before .before .before .before .before .args in
-    let j = c .before .before .before .before .before .j2 .given in
-    let s = sound (a .format) (a .edition) (fieldsIn (now (a .fields))) (now (a .values)) (j .0 .0) (sym (c .before .before .before .before .before .before .before .judge-fields .ensures) ∙ j .1) in
+    let s = sound (a .format) (a .edition) (fieldsIn (now (a .fields))) (now (a .values)) (c .before .before .before .before .before .before .before .judge-fields .ensures) (c .before .before .before .before .before .j2 .given .1) in
     rw (write-sound (a .format) (a .edition) (fieldsIn (now (a .fields))) (now (a .values)) (now (a .out)) s) (c .before .before .put-image .ensures)
 
 pub write-as-spec : {M : Type 1} → statement M

@@ -1,6 +1,6 @@
 -- `writer::write_image` meets its contract: 16 and 1, 2, and then the fields.
 -- Assumes nothing.
-use mathlib.Core.Path.{refl, sym, _∙_}
+use mathlib.Core.Path.{refl}
 use denote.Ref.{now}
 use Rattle.layout.specs.Write.{fieldsIn}
 use Rattle.writer.proofs.Judged.{write-unknown, write-long, write-known}
@@ -26,8 +26,7 @@ refused-requires-2 c κs = search needs
 returns : tie.Need-returns
 returns c =
     let a = c .before .before .before .before .before .before .before .before .before .args in
-    let f = c .before .before .before .c2 .given in
-    rw (write-long (a .format) (a .edition) (fieldsIn (now (a .fields))) (now (a .values)) (now (a .out)) (f .0 .0) (sym (c .before .before .before .before .before .choose .ensures) ∙ f .1) (c .before .if1 .taken)) (c .refused2 .ensures, refl)
+    rw (write-long (a .format) (a .edition) (fieldsIn (now (a .fields))) (now (a .values)) (now (a .out)) (c .before .before .before .before .before .choose .ensures) (c .before .before .before .c2 .given .1) (search needs)) (c .refused2 .ensures, refl)
 
 write-as-requires : tie.Need-write-as-requires
 write-as-requires c κs = search needs
@@ -35,8 +34,7 @@ write-as-requires c κs = search needs
 returns-2 : tie.Need-returns-2
 returns-2 c =
     let a = c .before .before .before .before .before .before .before .before .args in
-    let k = c .before .before .c .given in
-    rw (write-unknown (a .format) (a .edition) (fieldsIn (now (a .fields))) (now (a .values)) (now (a .out)) (k .0 .0) (sym (c .before .before .before .before .choose .ensures) ∙ k .1)) (c .refused .ensures, refl)
+    rw (write-unknown (a .format) (a .edition) (fieldsIn (now (a .fields))) (now (a .values)) (now (a .out)) (c .before .before .before .before .choose .ensures) (c .before .before .c .given .1)) (c .refused .ensures, refl)
 
 same-length : tie.Need-same-length
 same-length c = search needs
@@ -44,8 +42,7 @@ same-length c = search needs
 returns-3 : tie.Need-returns-3
 returns-3 c =
     let a = c .before .before .before .before .before .before .before .before .before .before .before .before .args in
-    let f = c .before .before .before .before .before .before .c2 .given in
-    rw (write-known (a .format) (a .edition) (fieldsIn (now (a .fields))) (now (a .values)) (now (a .out)) (f .0 .0) (sym (c .before .before .before .before .before .before .before .before .choose .ensures) ∙ f .1) (c .before .before .before .before .if1 .left)) (c .before .before .write-as .ensures)
+    rw (write-known (a .format) (a .edition) (fieldsIn (now (a .fields))) (now (a .values)) (now (a .out)) (c .before .before .before .before .before .before .before .before .choose .ensures) (c .before .before .before .before .before .before .c2 .given .1) (search needs)) (c .before .before .write-as .ensures)
 
 pub write-image-spec : {M : Type 1} → statement M
 write-image-spec =
