@@ -390,7 +390,11 @@ int LLVMFuzzerTestOneInput(const uint8_t *data, size_t size) {
     if (arenas[0] == NULL) make_arenas();
 
     struct request r = {
+#ifdef ONLY
+        .call = ONLY, /* this call, whatever the input says */
+#else
         .call = data[0] % 8,
+#endif
         .format = FORMATS[data[1] % 8],
         .edition = EDITIONS[data[2] % 8],
         .n = data[3] < 0xF0 ? data[3] : NUMBERS[data[3] - 0xF0],

@@ -1,7 +1,8 @@
-// Runs the cases that 01 marks Run, as far as reading goes, and 000's full example: a line for each, "ok" or "WRONG".
+// Runs the cases that 01 marks Run, 000's full example, 002's, and a write: a line for each, "ok" or "WRONG".
 use layout::Checked;
 use layout::Entry;
 use layout::Lookup;
+use layout::Made;
 use layout::Part;
 use layout::Place;
 use layout::Reading;
@@ -246,6 +247,59 @@ fn run_pool(image: &[u8]) {
     say(b"string 2, refused", has_no_string(image, 2));
 }
 
+// Whether an image of n bytes was made.
+fn is_made(m: Made, n: usize) -> bool {
+    match m {
+        Made::Wrote(k) => k == n,
+        Made::Unwritten(_) => false,
+    }
+}
+
+fn is_unmade(m: Made, number: u32, place: usize) -> bool {
+    match m {
+        Made::Wrote(_) => false,
+        Made::Unwritten(r) => is_refusal(r, number, place),
+    }
+}
+
+// The SKU image edited to "B", in ten bytes of output.
+fn is_edited(image: &[u8]) -> bool {
+    let mut out = [0xAAu8; 10];
+    let m = editor::edit_entry(&mut out, 2, 2, image, 0, b"B");
+    is_made(m, 8) & parts::same_bytes(&out, b"\x01\x03SKU\x01B\x00\xFF\xFF")
+}
+
+// The same in seven bytes: 12, and the output stays as it was.
+fn is_not_edited(image: &[u8]) -> bool {
+    let mut out = [0xAAu8; 7];
+    let m = editor::edit_entry(&mut out, 2, 2, image, 0, b"B");
+    is_unmade(m, 12, 0) & parts::same_bytes(&out, b"\xAA\xAA\xAA\xAA\xAA\xAA\xAA")
+}
+
+// The SKU image written, in ten bytes of output: one field, with its key at 0 and its value at 3 of the values.
+fn is_written(fields: &[u8]) -> bool {
+    let mut out = [0xAAu8; 10];
+    let m = writer::write_image(&mut out, 2, 2, fields, b"SKUA7");
+    is_made(m, 9) & parts::same_bytes(&out, b"\x01\x03SKU\x02A7\x00\xFF")
+}
+
+// A value that ends after the values: 13, with the field's number, and the output stays as it was.
+fn is_not_written(fields: &[u8]) -> bool {
+    let mut out = [0xAAu8; 10];
+    let m = writer::write_image(&mut out, 2, 2, fields, b"SKUA");
+    is_unmade(m, 13, 0) & parts::same_bytes(&out, b"\xAA\xAA\xAA\xAA\xAA\xAA\xAA\xAA\xAA\xAA")
+}
+
+fn run_edits(image: &[u8]) {
+    say(b"sku edited in ten bytes", is_edited(image));
+    say(b"sku edited in seven bytes, refused", is_not_edited(image));
+}
+
+fn run_writes(fields: &[u8]) {
+    say(b"sku written", is_written(fields));
+    say(b"value after the values, refused", is_not_written(fields));
+}
+
 fn run_ends() {
     say(b"vpd of no bytes", is_empty_refused(2, 2, b"\x00", 5, 0));
     say(b"vpd of 00", has_count(2, 2, b"\x00", 0));
@@ -270,5 +324,7 @@ fn main() {
     fill_full(&mut image);
     run_full(&image);
     run_pairs();
+    run_edits(b"\x01\x03SKU\x02A7\x00");
+    run_writes(b"\x01\x00\x00\x00\x00\x00\x00\x00\x03\x00\x00\x00\x03\x00\x00\x00\x02\x00\x00\x00");
     run_pool(b"\x56\x02\x0E\x10\x00\x01\x06AB\xC3D\xC5F\x2F");
 }
