@@ -43,12 +43,8 @@ pub extern "C" fn boardid_value(format: u32, edition: u32, image: &[u8], n: u64)
 pub extern "C" fn boardid_string(format: u32, edition: u32, image: &[u8], number: u64) -> u64
     ensures { λ r. ⌜ r ≡ stringCall format edition (now (image .entry)) number ⌝ }
 {
-    records::pack_located(reader::string_part(
-        format,
-        edition,
-        image,
-        StringNumber(number as usize),
-    ))
+    let n = StringNumber(number as usize);
+    records::pack_located(reader::string_part(format, edition, image, n))
 }
 
 // ---- one record

@@ -44,6 +44,7 @@ pub fn all() -> Vec<Subject> {
         subject("000's example, 8,192 bytes", Format::Fboss, vec![example()]),
         subject("SKU image, 9 bytes", Format::Vpd, vec![sku()]),
         subject("tray of 1,000 Tiny boards", Format::Tiny, tray),
+        subject("Tiny, 254 bytes", Format::Tiny, vec![full_tiny()]),
         subject(
             "FBOSS, 65,536 bytes",
             Format::Fboss,
@@ -140,6 +141,19 @@ fn tiny_board(number: u32) -> Board {
         Entry::new(0x01, pool),
     ];
     board(Format::Tiny, entries, 0, vec![0, 1, 2, 4, b'C', b'D'])
+}
+
+/// A Tiny image with as many entries as there can be, of two bytes each, and the string number in the
+/// middle. Its unnamed entries can't be written, so the write is of a tray board's entries.
+fn full_tiny() -> Board {
+    let mut entries = vec![Entry::new(0x02, vec![]); 124];
+    entries.insert(62, Entry::new(0x10, vec![0]));
+    let write = tiny_board(0);
+    Board {
+        fields: write.fields,
+        values: write.values,
+        ..board(Format::Tiny, entries, 0, vec![1])
+    }
 }
 
 /// An FBOSS image of the longest size with values of about one length and the serial number in the
