@@ -1,7 +1,7 @@
 # Builds the library and the C examples, installs what C projects need, and runs the C tests.
 #
 #   make                                 build the library and the examples
-#   make install PREFIX=DIR [DESTDIR=DIR]  install library, headers and boardid.pc (see docs/C-INTERFACE.md)
+#   make install PREFIX=DIR [DESTDIR=DIR]  install library, headers, boardid.pc and the manual (see docs/C-INTERFACE.md)
 #   make check                           build and run the C tests
 #   make clean                           remove the built examples
 #
@@ -15,6 +15,7 @@ NEWEST := 2
 PREFIX ?= /usr/local
 INCLUDEDIR ?= $(PREFIX)/include
 LIBDIR ?= $(PREFIX)/lib
+DOCDIR ?= $(PREFIX)/share/doc/boardid
 CFLAGS ?= -O2 -g
 WARNINGS := -Wall -Wextra -Wpedantic
 OUT := target/c
@@ -51,7 +52,8 @@ $(OUT)/boardid.pc: Makefile FORCE
 	} >$@
 
 install: $(LIB) $(OUT)/boardid.pc
-	install -d '$(DESTDIR)$(LIBDIR)/pkgconfig' '$(DESTDIR)$(INCLUDEDIR)'
+	install -d '$(DESTDIR)$(LIBDIR)/pkgconfig' '$(DESTDIR)$(INCLUDEDIR)' '$(DESTDIR)$(DOCDIR)'
+	install -m 644 docs/C-INTERFACE.md docs/DECISIONS.md '$(DESTDIR)$(DOCDIR)'
 	install -m 644 '$(LIB)' '$(DESTDIR)$(LIBDIR)/libboardid.a'
 	install -m 644 $(OUT)/boardid.pc '$(DESTDIR)$(LIBDIR)/pkgconfig/boardid.pc'
 	install -m 644 include/edition-$(NEWEST)/boardid.h '$(DESTDIR)$(INCLUDEDIR)/boardid.h'

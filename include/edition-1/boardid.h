@@ -166,7 +166,7 @@ static inline uint32_t boardid_answer_count(uint64_t answer)
     return boardid_answer_number(answer) == 0 ? (uint32_t)(answer >> 32) : 0;
 }
 
-/* The part that the call gives; the empty part at 0 where it was refused. */
+/* The part that boardid_value_at or boardid_string_at gives; the empty part at 0 where it was refused. */
 static inline struct boardid_part boardid_answer_part(uint64_t answer)
 {
     struct boardid_part part;

@@ -204,7 +204,7 @@ exported_calls() {
 
 # Runs make install with these words, and nothing of an outer make's.
 install_here() {
-    env -u MAKEFLAGS -u MAKEOVERRIDES -u DESTDIR -u INCLUDEDIR -u LIBDIR make -s install "LIB=$lib" "$@"
+    env -u MAKEFLAGS -u MAKEOVERRIDES -u DESTDIR -u INCLUDEDIR -u LIBDIR -u DOCDIR make -s install "LIB=$lib" "$@"
 }
 
 # What make installs is enough to build an example with the newest header, and with an older one.
@@ -227,6 +227,7 @@ installed() {
 staged() {
     install_here PREFIX=/opt/board "DESTDIR=$room/staged" || return 1
     [ -f "$room/staged/opt/board/lib/libboardid.a" ] && [ -f "$room/staged/opt/board/include/boardid.h" ] &&
+        [ -f "$room/staged/opt/board/share/doc/boardid/C-INTERFACE.md" ] &&
         grep -q '^prefix=/opt/board$' "$room/staged/opt/board/lib/pkgconfig/boardid.pc"
 }
 
