@@ -21,24 +21,7 @@ refused=0 failed=''
 for edit in tests/definition-edits/*.edit; do
     label=$(basename "$edit" .edit)
     cp -R "$room/base" "$room/$label"
-    file='' old='' bad=''
-    while IFS= read -r line; do
-        case $line in
-        'file: '*) file=${line#file: } ;;
-        'old: '*) old=$(printf '%b' "${line#old: }") ;;
-        'new: '*)
-            new=$(printf '%b' "${line#new: }")
-            OLD=$old NEW=$new awk '
-                { text = text $0 "\n" }
-                END {
-                    old = ENVIRON["OLD"]; at = index(text, old)
-                    if (old == "" || !at || index(substr(text, at + length(old)), old)) exit 3
-                    printf "%s%s%s", substr(text, 1, at - 1), ENVIRON["NEW"], substr(text, at + length(old))
-                }' "$room/$label/$file" >"$room/edited" || bad="an old text is not in $file just once"
-            [ -n "$bad" ] || mv "$room/edited" "$room/$label/$file"
-            ;;
-        esac
-    done <"$edit"
+    bad=$(tests/apply-edit.sh "$edit" "$room/$label") || bad=${bad:-'it does not apply'}
     if [ -n "$bad" ]; then
         echo "definition edit $label: BAD EDIT: $bad"
         failed="$failed $label"
