@@ -1,0 +1,5 @@
+pub mod Packing
+pub mod Numbers
+pub mod Refusals
+pub mod Entries
+pub mod ReadCalls
