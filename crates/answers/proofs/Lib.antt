@@ -3,3 +3,4 @@ pub mod Numbers
 pub mod Refusals
 pub mod Entries
 pub mod ReadCalls
+pub mod WriteCalls

@@ -6,6 +6,9 @@ use mathlib.Core.List.{List}
 use lib.ListN.{length}
 use Rattle.layout.specs.Bytes.{partAt, refusal}
 use Rattle.layout.specs.Calls.{Told, told, toldRefusal, toldChecked, toldLookup, toldLocated, checkImage, entriesIn, entryAt, valueAt, stringAt}
+use Rattle.layout.specs.declared.Field.{Field}
+use Rattle.layout.specs.Write.{Outcome, writeImage, toldMade}
+use Rattle.layout.specs.Edit.{editEntry}
 use Rattle.records.specs.Packed.{packed}
 
 -- ---- how C takes an answer apart
@@ -44,3 +47,9 @@ pub record WholeReads : Type 0 where
   pub entry : (f e : ℕ) (img : List ℕ) (n : ℕ) → Whole (toldLookup (entryAt f e img n))
   pub value : (f e : ℕ) (img : List ℕ) (n : ℕ) → Whole (toldLocated (valueAt f e img n))
   pub string : (f e : ℕ) (img : List ℕ) (number : ℕ) → Whole (toldLocated (stringAt f e img number))
+
+-- the answers of the calls that make an image. A refusal of a write has a field's number for its place, so that its list must have fewer than 2^59 fields:
+-- a field has 20 bytes in memory
+pub record WholeWrites : Type 0 where
+  pub edited : (f e : ℕ) (img : List ℕ) (i : ℕ) (v out : List ℕ) → Whole (toldMade (editEntry f e img i v out .answer))
+  pub written : (f e : ℕ) (xs : List Field) (values out : List ℕ) → length xs < 576460752303423488 → Whole (toldMade (writeImage f e xs values out .answer))
