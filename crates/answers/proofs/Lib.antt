@@ -4,3 +4,6 @@ pub mod Refusals
 pub mod Entries
 pub mod ReadCalls
 pub mod WriteCalls
+pub mod Whole
+pub mod Readings
+pub mod Records

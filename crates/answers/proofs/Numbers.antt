@@ -1,8 +1,8 @@
--- Every number that a format gives is one of 01's table: of its heads, its lengths and its header.
+-- Every number that a format gives is one of 01's table: for an entry's head, for its length, for the image's header.
 -- Assumes nothing.
-use Prim.Native.Nat.{ℕ, zero, suc, _+_, _*_, _-_, _≤_}
+use Prim.Native.Nat.{ℕ, zero, suc, _+_, _*_, _-_}
 use mathlib.Core.List.{List}
-use mathlib.Core.Bool.{Bool, true, false, _&&_}
+use mathlib.Core.Bool.{Bool, _&&_}
 use native.Mathlib.Omega.{arith}
 use lib.ListN.{length, getD}
 use lib.Dec.{ltb, leb, eqb}
@@ -25,21 +25,22 @@ use Rattle.layout.specs.Vpd.{vpd, groups, keyedHead, vpdHead}
 use Rattle.layout.specs.Tiny.{tiny, tinyOpened, tinyHead, tinyLength}
 use Rattle.layout.specs.Editions.{shape, knownEdition, withEdition, chosen}
 use Rattle.laws.proofs.Choices.{either}
+use Rattle.answers.specs.Whole.{Tabled}
 use Rattle.answers.proofs.Packing.{Low}
 
 abbrev HeadNumber : Headed → Type 0
 HeadNumber (Opens h) = Unit {0}
 HeadNumber Ends = Unit {0}
-HeadNumber (Wrong n) = n ≤ 16
+HeadNumber (Wrong n) = Tabled n
 
 abbrev LengthNumber : Length → Type 0
 LengthNumber (Reads v j) = Unit {0}
-LengthNumber (Fails n) = n ≤ 16
+LengthNumber (Fails n) = Tabled n
 
 abbrev pub NextNumber : Next → Type 0
 NextNumber (Framed f) = Unit {0}
 NextNumber Ended = Unit {0}
-NextNumber (Broken n) = n ≤ 16
+NextNumber (Broken n) = Tabled n
 
 -- the place of a header that is refused is one of its own
 abbrev pub OpenedLow : Opened → Type 0
@@ -48,7 +49,7 @@ OpenedLow (Closed r) = Low 4 (r .number) (r .place .0)
 
 abbrev pub ChosenNumber : Chosen → Type 0
 ChosenNumber (Known f) = Unit {0}
-ChosenNumber (Unknown n) = n ≤ 16
+ChosenNumber (Unknown n) = Tabled n
 
 -- ---- lengths
 

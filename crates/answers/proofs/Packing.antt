@@ -12,7 +12,7 @@ use Rattle.layout.specs.declared.Entry.{Entry}
 use Rattle.layout.specs.declared.Refusal.{Refusal}
 use Rattle.layout.specs.Calls.{Told, told, toldRefusal}
 use Rattle.records.specs.Packed.{packed}
-use Rattle.answers.specs.Whole.{Whole}
+use Rattle.answers.specs.Whole.{Whole, Tabled}
 
 whole : (t : Told) → t .number < 32 → t .place < 576460752303423488 → t .count < 134217728 → t .part .place .0 < 4294967296 → Whole t
 unfolding packed
@@ -28,7 +28,7 @@ whole t n p c x = go (eqb (t .number) 0) refl
 
 -- a number of 01's table, and a place that is not beyond `most`
 pub record Low (most n p : ℕ) : Type 0 where
-  pub number : n ≤ 16
+  pub number : Tabled n
   pub place : p ≤ most
 
 pub whole-refusal : (most : ℕ) (r : Refusal) → most < 576460752303423488 → Low most (r .number) (r .place .0) → Whole (toldRefusal r)

@@ -3,7 +3,7 @@
 use Prim.Native.Nat.{ℕ, zero, suc, _+_, _-_, _≤_}
 use mathlib.Core.Path.{_≡_, refl}
 use mathlib.Core.List.{List, [], _∷_, _++_}
-use mathlib.Core.Bool.{Bool, true, false}
+use mathlib.Core.Bool.{Bool, false}
 use native.Mathlib.Omega.{arith}
 use lib.ListN.{length, drop, length-append, length-drop}
 use lib.Dec.{ltb}
@@ -21,7 +21,7 @@ use Rattle.layout.specs.Bytes.{part}
 use Rattle.layout.specs.Shape.{Label, next}
 use Rattle.layout.specs.Editions.{shape, chosen, names}
 use Rattle.layout.specs.Walk.{Raw, Content, content, labelOf, flat, Walked, done, stop, more, turn, walks, walk}
-use Rattle.layout.specs.Read.{limit, sealed, checkPlace, seenBefore, readerRule, fault, Judged, fine, faulty, orElse, judge, complete, codesOf, Read, accepted, refused, readComplete, readWalked, readOpened, readAs, readChosen, readImage}
+use Rattle.layout.specs.Read.{limit, sealed, seenBefore, readerRule, fault, Judged, fine, faulty, orElse, judge, complete, codesOf, Read, accepted, refused, readComplete, readWalked, readOpened, readAs, readChosen, readImage}
 use Rattle.laws.specs.Grammar.{grammar}
 use Rattle.laws.proofs.Choices.{either}
 use Rattle.laws.proofs.Formats.{laws}
@@ -69,7 +69,7 @@ JudgedLow most (faulty n p) = Low most n p
 
 pub or-low : (most n p : ℕ) (rest : Unit {0} → Judged) → n ≤ 16 → p ≤ most → JudgedLow most (rest tt) → JudgedLow most (orElse n p rest)
 or-low most zero p rest l le r = r
-or-low most (suc n) p rest l le r = record { number = l; place = le }
+or-low most (suc n) p rest l le r = omega arith
 
 fault-number : (f : Format) (e : ℕ) (seen : List Label) (c : Content) → fault (shape f) e seen c ≤ 16
 unfolding fault

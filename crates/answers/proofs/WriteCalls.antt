@@ -1,6 +1,6 @@
--- The answers of the calls that make an image lose nothing.
+-- The calls that make an image: each gives a short length, or a refusal of 01's table.
 -- Assumes nothing.
-use Prim.Native.Nat.{ℕ, zero, suc, _+_, _≤_, _<_}
+use Prim.Native.Nat.{ℕ, zero, suc, _+_, _≤_}
 use mathlib.Core.Path.{_≡_, refl}
 use mathlib.Core.List.{List, [], _∷_, _++_}
 use mathlib.Core.Bool.{Bool, true, false, _&&_, _||_}
@@ -14,12 +14,11 @@ use Rattle.layout.specs.declared.Chosen.the-variants.{Known, Unknown}
 use Rattle.layout.specs.declared.Field.{Field}
 use Rattle.layout.specs.declared.Made.{Made}
 use Rattle.layout.specs.declared.Made.the-variants.{Wrote, Unwritten}
-use Rattle.layout.specs.Bytes.{partAt}
 use Rattle.layout.specs.Shape.{Shape, Label}
 use Rattle.layout.specs.Editions.{shape, chosen, names}
 use Rattle.layout.specs.Walk.{Raw, Content, labelOf, flat}
 use Rattle.layout.specs.Read.{limit, seenBefore, Judged, fine, faulty, complete, Read, accepted, refused, readAs}
-use Rattle.layout.specs.Write.{partsInside, fieldContent, writerRule, fieldFault, judgeFields, contentsOf, contentCodes, entriesBytes, imageOf, Outcome, put, writeJudged, writeAs, writeChosen, writeImage, toldMade}
+use Rattle.layout.specs.Write.{partsInside, fieldContent, writerRule, fieldFault, judgeFields, contentsOf, contentCodes, entriesBytes, imageOf, Outcome, put, writeJudged, writeAs, writeChosen, writeImage}
 use Rattle.layout.specs.Edit.{editedBytes, editRule, Allowed, allowed, denied, mayEdit, editAllowed, editRead, editChosen, editEntry}
 use Rattle.laws.specs.Grammar.{grammar}
 use Rattle.laws.proofs.Choices.{false-true, either, both}
@@ -27,23 +26,18 @@ use Rattle.laws.proofs.Formats.{laws}
 use Rattle.laws.proofs.Frames.{raw-size}
 use Rattle.laws.proofs.Walking.{Frames}
 use Rattle.laws.proofs.Images.{accepted-made}
-use Rattle.answers.specs.Whole.{Whole, WholeWrites}
-use Rattle.answers.proofs.Packing.{Low, whole-refusal, whole-told}
+use Rattle.answers.proofs.Packing.{Low}
 use Rattle.answers.proofs.Numbers.{ChosenNumber, chosen-number}
 use Rattle.answers.proofs.Refusals.{farthest, JudgedLow, or-low, ReadLow, read-low}
 use Rattle.answers.proofs.Entries.{ends-in}
 
 -- an image that is made is short, and a refusal is low
-abbrev MadeLow : ℕ → Made → Type 0
+abbrev pub MadeLow : ℕ → Made → Type 0
 MadeLow most (Wrote n) = n ≤ limit
 MadeLow most (Unwritten r) = Low most (r .number) (r .place .0)
 
 abbrev OutcomeLow : ℕ → Outcome → Type 0
 OutcomeLow most o = MadeLow most (o .answer)
-
-made-whole : (most : ℕ) (x : Made) → most < 576460752303423488 → MadeLow most x → Whole (toldMade x)
-made-whole most (Wrote n) lt l = whole-told n (partAt 0 0) [] (omega arith) (omega arith)
-made-whole most (Unwritten r) lt l = whole-refusal most r lt l
 
 put-low : (most : ℕ) (S : Shape) (image out : List ℕ) → length out ≤ limit → OutcomeLow most (put S image out)
 unfolding put
@@ -73,7 +67,7 @@ neither : (a b : Bool) → a || b ≡ false → (a ≡ false) × (b ≡ false)
 neither true b q = false-true (let z : false ≡ true = cc in z)
 neither false b q = (refl, q)
 
-edited-low : (f e : ℕ) (img : List ℕ) (i : ℕ) (v out : List ℕ) → OutcomeLow farthest (editEntry f e img i v out)
+pub edited-low : (f e : ℕ) (img : List ℕ) (i : ℕ) (v out : List ℕ) → OutcomeLow farthest (editEntry f e img i v out)
 unfolding editEntry
 edited-low f e img i v out = choose (chosen f e) (chosen-number f e)
   where
@@ -121,7 +115,7 @@ fields-low most S e values b seen (x ∷ xs) i le =
     (field-number S e values b seen x) (omega arith)
     (fields-low most S e values (S .last (x .code)) (seen ++ (labelOf (fieldContent S values x) ∷ [])) xs (i + 1) (omega arith))
 
-written-low : (f e : ℕ) (xs : List Field) (values out : List ℕ) → OutcomeLow (length xs) (writeImage f e xs values out)
+pub written-low : (f e : ℕ) (xs : List Field) (values out : List ℕ) → OutcomeLow (length xs) (writeImage f e xs values out)
 unfolding writeImage writeAs
 written-low f e xs values out = choose (chosen f e) (chosen-number f e)
   where
@@ -136,10 +130,3 @@ written-low f e xs values out = choose (chosen f e) (chosen-number f e)
         (λ t. judged (shape g) (contentsOf (shape g) values xs) (judgeFields (shape g) e values false [] xs 0) (ltb-false limit (length out) t)
         (fields-low (length xs) (shape g) e values false [] xs 0 (omega arith)))
     choose (Unknown n) l = record { number = l; place = omega arith }
-
-pub whole-writes : WholeWrites
-whole-writes =
-    record {
-      edited = λ f e img i v out. made-whole farthest (editEntry f e img i v out .answer) (omega arith) (edited-low f e img i v out);
-      written = λ f e xs values out lt. made-whole (length xs) (writeImage f e xs values out .answer) lt (written-low f e xs values out);
-    }
