@@ -1,0 +1,140 @@
+-- Records in lent bytes lose nothing.
+-- Assumes nothing.
+use Prim.Native.Nat.{ℕ, zero, suc, _+_, _*_, _/_, _%_, _<_}
+use mathlib.Core.Path.{_≡_, refl, _∙_}
+use mathlib.Core.List.{List, [], _∷_, _++_}
+use mathlib.Core.Bool.{Bool, false}
+use native.Mathlib.Omega.{arith}
+use lib.ListN.{length, getD, replicate}
+use lib.Seq.{getD-append-add}
+use Rattle.layout.specs.declared.Format.{Format}
+use Rattle.layout.specs.declared.Format.the-variants.{Fboss, Vpd, Tiny}
+use Rattle.layout.specs.declared.Entry.{Entry}
+use Rattle.layout.specs.declared.Reading.{Reading}
+use Rattle.layout.specs.declared.Reading.the-variants.{Plain, Text, Number, Addresses, Numbered, Tests, Identified, Batched}
+use Rattle.layout.specs.Fboss.{fboss}
+use Rattle.layout.specs.Vpd.{vpd}
+use Rattle.layout.specs.Tiny.{tiny}
+use Rattle.layout.specs.Editions.{shape, names, kind}
+use Rattle.layout.specs.Walk.{Raw, content, flat}
+use Rattle.layout.specs.Read.{limit, Read, accepted, refused, readImage}
+use Rattle.layout.specs.Calls.{toldReading, entryOf, entriesOf, entriesBy, entriesIn}
+use Rattle.layout.specs.Write.{word}
+use Rattle.laws.specs.Grammar.{grammar, Each, none, also}
+use Rattle.laws.proofs.Choices.{either}
+use Rattle.laws.proofs.Formats.{laws}
+use Rattle.laws.proofs.Passes.{raw-code}
+use Rattle.laws.proofs.Walking.{Frames}
+use Rattle.laws.proofs.Calls.{accepted-reading}
+use Rattle.records.specs.Words.{wordBytes, wordsBytes, readingWords, recordWords, recordBytes}
+use Rattle.answers.specs.Records.{WholeRecord, WholeRecords}
+use Rattle.answers.proofs.Entries.{Inside, held}
+use Rattle.answers.proofs.Readings.{Bytes, Words, each-left, each-right, each-append, each-take, each-part, byte-of, then, reading-words}
+
+-- ---- words in bytes
+
+-- a word that fits four bytes is read back from them
+word-back : (w : ℕ) (t : List ℕ) → w < 4294967296 → word 0 (wordBytes w ++ t) ≡ w
+word-back w t lt =
+    let z₀ : w % 256 + w / 256 * 256 ≡ w = omega arith in
+    let z₁ : w / 256 % 256 + w / 65536 * 256 ≡ w / 256 = omega arith in
+    let z₂ : w / 65536 % 256 + w / 16777216 * 256 ≡ w / 65536 = omega arith in
+    let z₃ : w / 16777216 % 256 ≡ w / 16777216 = omega arith in
+    omega arith
+
+-- what stands after four bytes is read four bytes further on
+word-after : (w a : ℕ) (t : List ℕ) → word (4 + a) (wordBytes w ++ t) ≡ word a t
+word-after w a t =
+    let s = wordBytes w ++ t in
+    let b₀ : getD s (4 + a) 0 ≡ getD t a 0 = getD-append-add (wordBytes w) t a 0 in
+    omega (arith, byte 1, byte 2, byte 3)
+  where
+    byte : (j : ℕ) → getD (wordBytes w ++ t) (4 + a + j) 0 ≡ getD t (a + j) 0
+    byte j = let q : 4 + a + j ≡ 4 + (a + j) = omega arith in rw q (getD-append-add (wordBytes w) t (a + j) 0)
+
+words-back : (ws : List ℕ) (k : ℕ) → Words ws → k < length ws → word (k * 4) (wordsBytes ws) ≡ getD ws k 0
+unfolding wordsBytes
+words-back [] k none lt = absurd (omega arith)
+words-back (w ∷ ws) zero (also p ps) lt = word-back w (wordsBytes ws) p
+words-back (w ∷ ws) (suc k) (also p ps) lt =
+    let q : suc k * 4 ≡ 4 + k * 4 = omega arith in
+    rw q (word-after w (k * 4) (wordsBytes ws) ∙ words-back ws k ps (omega arith))
+
+-- ---- records
+
+length-reading : (r : Reading) → length (readingWords r) ≡ 8
+unfolding toldReading
+length-reading Plain = refl
+length-reading Text = refl
+length-reading (Number n) = refl
+length-reading (Addresses base count) = refl
+length-reading (Numbered s) = refl
+length-reading (Tests byte n) = refl
+length-reading (Identified x) = refl
+length-reading (Batched x batch) = refl
+
+noughts : Words (replicate 8 0)
+noughts = then 0 z (then 0 z (then 0 z (then 0 z (then 0 z (then 0 z (then 0 z (then 0 z none)))))))
+  where
+    z : 0 < 4294967296
+    z = omega arith
+
+record-whole : (x : Entry) → x .code < 4294967296 → x .kind < 4294967296 → Inside limit x → Words (toldReading (x .reading)) → WholeRecord x
+unfolding recordBytes
+record-whole x c k i r =
+    let eight = length-reading (x .reading) in
+    record { fits = fits; sixteen = omega arith; read = λ k lt. words-back (recordWords x) k fits (omega arith) }
+  where
+    fits : Words (recordWords x)
+    fits =
+        then (x .code) c
+        (then (x .kind) k
+        (then (x .place .0) (omega arith)
+        (then (x .key .place .0) (omega arith)
+        (then (x .key .len) (omega arith)
+        (then (x .value .place .0) (omega arith)
+        (then (x .value .len) (omega arith)
+        (then 0 (omega arith) (each-take 8 (toldReading (x .reading) ++ replicate 8 0) (each-append (toldReading (x .reading)) (replicate 8 0) r noughts)))))))))
+
+-- ---- entries
+
+kind-small : (f : Format) (e c : ℕ) → c < 256 → kind (shape f) e c < 4294967296
+unfolding kind
+kind-small f e c lt = either (λ n. n < 4294967296) (names (shape f) e c) (λ _. numbered f) (λ _. omega arith)
+  where
+    numbered : (g : Format) → shape g .number * 256 + c < 4294967296
+    numbered Fboss = unfold fboss in (omega arith)
+    numbered Vpd = unfold vpd in (omega arith)
+    numbered Tiny = unfold tiny in (omega arith)
+
+entry-whole : (f : Format) (e p : ℕ) (r : Raw) → r .frame .code < 256 → Bytes (r .bytes) → Inside limit (entryOf (shape f) e p r) → WholeRecord (entryOf (shape f) e p r)
+unfolding entryOf content
+entry-whole f e p r c bs i =
+    record-whole (entryOf (shape f) e p r) (omega arith) (kind-small f e (r .frame .code) c) i
+    (either (λ x. Words (toldReading x)) (names (shape f) e (r .frame .code))
+    (λ _. reading-words f (r .frame .code) (content r .value) (each-part (r .frame .val) (r .frame .vlen) (r .bytes) bs))
+    (λ _. plain))
+  where
+    plain : Words (toldReading Plain)
+    plain = unfold toldReading in (then 0 (omega arith) none)
+
+entries-whole : (f : Format) (e : ℕ) (b : Bool) (p : ℕ) (rs : List Raw) → Frames (shape f) (grammar f) b rs → Bytes (flat rs) → Each (Inside limit) (entriesOf (shape f) e p rs) →
+    Each WholeRecord (entriesOf (shape f) e p rs)
+unfolding entriesOf
+entries-whole f e b p [] fs bs none = none
+entries-whole f e b p (r ∷ rs) fs bs (also i is) =
+    let code = raw-code (laws f) r (flat rs) (fs .1) in
+    also (entry-whole f e p r (omega (arith, code, byte-of (r .bytes ++ flat rs) 0 bs)) (each-left (r .bytes) (flat rs) bs) i)
+    (entries-whole f e (shape f .last (r .frame .code)) (p + r .frame .size) rs (fs .2) (each-right (r .bytes) (flat rs) bs) is)
+
+pub whole-records : WholeRecords
+unfolding entriesIn
+whole-records f e img bs = go (readImage f e img) refl
+  where
+    go : (x : Read) → readImage f e img ≡ x → Each WholeRecord (entriesBy x e)
+    go (accepted g start rs) q =
+        let h = held f e img g start rs q in
+        let m = accepted-reading f e img g start rs q .made in
+        let H = shape g .header (length (flat rs)) in
+        entries-whole g e false start rs (h .frames) (each-left (flat rs) _ (each-right H _ (rw (m .is) at bs))) (h .inside)
+    go (refused r) q = none
