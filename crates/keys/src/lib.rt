@@ -1,0 +1,64 @@
+// A filter of keys, in words that the caller lends: a key that it does not know was never noted in it.
+ghost use mathlib.Core.Path.{_≡_};
+ghost use Prim.Native.Nat.{_<_};
+ghost use lib.ListN.{length};
+ghost use Rattle.keys.specs.Filter.{hashByte, hashed, wordAt, bitAt, mask, mayKnow, noted};
+
+// One byte taken into a hash.
+fn hash_byte(h: u32, b: u8) -> u32
+    ensures { λ r. ⌜ r ≡ hashByte h b ⌝ }
+{
+    ((((h as u64) + (b as u64)) * 0xC2B2AE35) % 4294967296) as u32
+}
+
+// The hash of a key, of 32 bits.
+fn hash_key(key: &[u8]) -> u32
+    ensures { λ r. ⌜ r ≡ hashed (now (key .entry)) ⌝ }
+{
+    let mut h: u32 = 0;
+    let mut i = 0;
+    while i < key.len() {
+        h = hash_byte(h, key[i]);
+        i += 1;
+    }
+    h
+}
+
+// Which of n words a hash belongs to.
+fn word_at(n: usize, h: u32) -> usize
+    requires { ⌜ 0 < n ⌝ }
+    ensures { λ r. ⌜ (r ≡ wordAt n h) × (r < n) ⌝ }
+{
+    (((h as u64) * ((n % 65536) as u64)) >> 32) as usize
+}
+
+// One of the 64 bits of a word.
+fn bit_at(x: u64) -> u64
+    ensures { λ r. ⌜ r ≡ bitAt x ⌝ }
+{
+    1u64 << (x % 64)
+}
+
+// The bits of a word that a hash belongs to, at most four.
+fn mask_of(h: u32) -> u64
+    ensures { λ r. ⌜ r ≡ mask h ⌝ }
+{
+    let g = (h as u64) * 0x85EBCA6B;
+    bit_at(g >> 14) | bit_at(g >> 20) | bit_at(g >> 26) | bit_at(g >> 32)
+}
+
+// Notes a key, and tells whether it may have been noted before.
+pub fn note_key(filter: &mut [u64], key: &[u8]) -> bool
+    ensures { λ r. ⌜ (r ≡ mayKnow (now (filter .entry)) (now (key .entry))) × (now (filter .exit) ≡ noted (now (filter .entry)) (now (key .entry))) ⌝ }
+{
+    let n = filter.len();
+    if n == 0 {
+        return true;
+    }
+    let h = hash_key(key);
+    let at = word_at(n, h);
+    let old = filter[at];
+    let new = old | mask_of(h);
+    filter[at] = new;
+    new == old
+}
