@@ -1,2 +1,3 @@
 pub mod Hashing
 pub mod Knowing
+pub mod Seen

@@ -41,3 +41,11 @@ noted words key = let at = wordAt (length words) (hashed key) in set words at (b
 -- whether a key may have been noted: one that was noted, and by chance another; always where there are no words
 unfoldable pub mayKnow : List ℕ → List ℕ → Bool
 mayKnow words key = if (eqb (length words) 0) (λ _. true) (λ _. hasMask (getD words (wordAt (length words) (hashed key)) 0) (mask (hashed key)))
+
+-- whether an entry of code 01h with this key may have been noted; always of another code
+unfoldable pub mayRepeat : List ℕ → ℕ → List ℕ → Bool
+mayRepeat words code key = if (eqb code 1) (λ _. mayKnow words key) (λ _. true)
+
+-- the filter once an entry of this code and key was passed
+unfoldable pub withKey : List ℕ → ℕ → List ℕ → List ℕ
+withKey words code key = if (eqb code 1) (λ _. noted words key) (λ _. words)

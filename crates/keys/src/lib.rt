@@ -2,7 +2,7 @@
 ghost use mathlib.Core.Path.{_≡_};
 ghost use Prim.Native.Nat.{_<_};
 ghost use lib.ListN.{length};
-ghost use Rattle.keys.specs.Filter.{hashByte, hashed, wordAt, bitAt, mask, mayKnow, noted};
+ghost use Rattle.keys.specs.Filter.{hashByte, hashed, wordAt, bitAt, mask, mayKnow, noted, mayRepeat, withKey};
 
 // One byte taken into a hash.
 fn hash_byte(h: u32, b: u8) -> u32
@@ -47,8 +47,8 @@ fn mask_of(h: u32) -> u64
     bit_at(g >> 14) | bit_at(g >> 20) | bit_at(g >> 26) | bit_at(g >> 32)
 }
 
-// Notes a key, and tells whether it may have been noted before.
-pub fn note_key(filter: &mut [u64], key: &[u8]) -> bool
+// Sets the bits of a key, and tells whether they were set before.
+fn set_bits(filter: &mut [u64], key: &[u8]) -> bool
     ensures { λ r. ⌜ (r ≡ mayKnow (now (filter .entry)) (now (key .entry))) × (now (filter .exit) ≡ noted (now (filter .entry)) (now (key .entry))) ⌝ }
 {
     let n = filter.len();
@@ -61,4 +61,14 @@ pub fn note_key(filter: &mut [u64], key: &[u8]) -> bool
     let new = old | mask_of(h);
     filter[at] = new;
     new == old
+}
+
+// Notes the key of an entry of code 01h, and tells whether such an entry may have been noted before; of another code nothing is noted.
+pub fn note_key(filter: &mut [u64], code: u32, key: &[u8]) -> bool
+    ensures { λ r. ⌜ (r ≡ mayRepeat (now (filter .entry)) code (now (key .entry))) × (now (filter .exit) ≡ withKey (now (filter .entry)) code (now (key .entry))) ⌝ }
+{
+    if code != 1 {
+        return true;
+    }
+    set_bits(filter, key)
 }

@@ -1,68 +1,31 @@
--- `keys::note_key` meets its contract: the bits of the key are set in its word, and were there where that changes nothing.
+-- `keys::note_key` meets its contract: only code 01h is noted.
 -- Assumes nothing.
-use mathlib.Core.Path.{sym, ap, _∙_}
+use mathlib.Core.Path.{sym}
 use borrow.Author.Needs.{needs}
-use denote.Ref.{now}
-use lib.ListN.{length}
-use Rattle.keys.specs.Filter.{wordAt, mask, noted}
-use Rattle.keys.proofs.Knowing.{finds-none, finds, noted-none}
+use borrow.Author.Tests.{eq-eqb, ne-eqb}
+use Rattle.keys.specs.Filter.{mayRepeat, withKey}
 use Rattle.keys.proofs.note_key.Statement.{statement}
 use Rattle.keys.proofs.note_key.Tie as tie
 use Rattle.keys.proofs.note_key.Reads as reads
 use Rattle.keys.proofs.note_key.Lts as lts
-use Rattle.keys.proofs.hash_key.Reads as hash-key-reads
-use Rattle.keys.proofs.mask_of.Reads as mask-of-reads
-use Rattle.keys.proofs.word_at.Reads as word-at-reads
+use Rattle.keys.proofs.set_bits.Reads as set-bits-reads
 
 returns : tie.Need-returns
-returns c =
-    let a = c .before .before .before .args in
-    (sym (finds-none (now (a .filter)) (c .if1 .taken) (now (a .key))), sym (noted-none (now (a .filter)) (c .if1 .taken) (now (a .key))))
+unfolding mayRepeat withKey
+returns c = let no-key = ne-eqb (c .before .before .before .args .code) 1 (c .if1 .taken) in (rw no-key, rw no-key)
 
-hash-key-requires : tie.Need-hash-key-requires
-hash-key-requires c κs = search needs
-
-word-at-requires : tie.Need-word-at-requires
-word-at-requires c κs = search needs
-
-mul-old : tie.Need-mul-old
-mul-old c = search needs
-
-slice-read-old : tie.Need-slice-read-old
-slice-read-old c = search needs
-
-mask-of-requires : tie.Need-mask-of-requires
-mask-of-requires c κs = search needs
-
-mul-filter : tie.Need-mul-filter
-mul-filter c = search needs
-
-slice-write-filter : tie.Need-slice-write-filter
-slice-write-filter c = search needs
+set-bits-requires : tie.Need-set-bits-requires
+set-bits-requires c κs = search needs
 
 same-length : tie.Need-same-length
 same-length c = search needs
 
 returns-2 : tie.Need-returns-2
-unfolding noted
+unfolding mayRepeat withKey
 returns-2 c =
-    let a = c .before .before .before .before .before .before .before .args in
-    let words = now (a .filter) in
-    let at = c .before .before .word-at .ensures .0 ∙ ap (wordAt (length words)) (c .before .before .before .hash-key .ensures) in
-    let bits = c .mask-of .ensures ∙ ap mask (c .before .before .before .hash-key .ensures) in
-    (rw (at, bits) (sym (finds words (c .before .before .before .before .if1 .left) (now (a .key)))), rw (at, bits))
+    let e = c .before .before .set-bits .ensures in
+    let key = eq-eqb (c .before .before .before .before .before .before .before .args .code) 1 (c .before .before .before .before .if1 .left) in
+    (rw key (e .0), rw key (e .1))
 
 pub note-key-spec : {M : Type 1} → statement M
-note-key-spec =
-    tie.close
-    (tie.spec
-    returns
-    hash-key-requires
-    word-at-requires
-    mul-old
-    slice-read-old
-    mask-of-requires
-    mul-filter
-    slice-write-filter
-    same-length
-    returns-2)
+note-key-spec = tie.close (tie.spec returns set-bits-requires same-length returns-2)
