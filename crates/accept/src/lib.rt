@@ -211,23 +211,16 @@ fn judge_image(
     }
 }
 
-// The same, with a filter of 64 bytes, of 2,048 and of 49,152.
-fn judge_few(format: Format, edition: u32, image: &[u8], start: usize, end: usize) -> Judgement
-    requires { ⌜ (start ≤ end) × IsDone (walked format (now image) start end) ⌝ }
-    ensures { λ r. ⌜ r ≡ judged format edition (rawsIn (walked format (now (image .entry)) start end)) start ⌝ }
-{
-    let mut filter = [0u64; 8];
-    judge_image(&mut filter, format, edition, image, start, end)
+// The number of keys that are to be told apart, at most.
+fn key_count(format: Format, count: usize) -> usize {
+    match format {
+        Format::Fboss => 0,
+        Format::Vpd => count,
+        Format::Tiny => 0,
+    }
 }
 
-fn judge_some(format: Format, edition: u32, image: &[u8], start: usize, end: usize) -> Judgement
-    requires { ⌜ (start ≤ end) × IsDone (walked format (now image) start end) ⌝ }
-    ensures { λ r. ⌜ r ≡ judged format edition (rawsIn (walked format (now (image .entry)) start end)) start ⌝ }
-{
-    let mut filter = [0u64; 256];
-    judge_image(&mut filter, format, edition, image, start, end)
-}
-
+// The same with a filter for any number of keys, of 49,152 bytes.
 fn judge_many(format: Format, edition: u32, image: &[u8], start: usize, end: usize) -> Judgement
     requires { ⌜ (start ≤ end) × IsDone (walked format (now image) start end) ⌝ }
     ensures { λ r. ⌜ r ≡ judged format edition (rawsIn (walked format (now (image .entry)) start end)) start ⌝ }
@@ -236,7 +229,31 @@ fn judge_many(format: Format, edition: u32, image: &[u8], start: usize, end: usi
     judge_image(&mut filter, format, edition, image, start, end)
 }
 
-// The same for so many entries, with a filter in which few of their keys collide.
+// The same with the filter that is lent, which serves two keys for each word, or with a larger one.
+// It calls itself, and so the compiler gives it no room for the filter of judge_many, which a call on few keys would have to touch.
+fn judge_sized(
+    filter: &mut [u64],
+    format: Format,
+    edition: u32,
+    image: &[u8],
+    start: usize,
+    end: usize,
+    keys: usize,
+) -> Judgement
+    requires { ⌜ (start ≤ end) × IsDone (walked format (now image) start end) ⌝ }
+    ensures { λ r. ⌜ r ≡ judged format edition (rawsIn (walked format (now (image .entry)) start end)) start ⌝ }
+{
+    if keys / 2 <= filter.len() {
+        return judge_image(filter, format, edition, image, start, end);
+    }
+    if keys <= 512 {
+        let mut larger = [0u64; 256];
+        return judge_sized(&mut larger, format, edition, image, start, end, keys);
+    }
+    judge_many(format, edition, image, start, end)
+}
+
+// The same for so many entries, without a filter for few keys.
 fn judge_entries(
     format: Format,
     edition: u32,
@@ -248,13 +265,13 @@ fn judge_entries(
     requires { ⌜ (start ≤ end) × IsDone (walked format (now image) start end) ⌝ }
     ensures { λ r. ⌜ r ≡ judged format edition (rawsIn (walked format (now (image .entry)) start end)) start ⌝ }
 {
-    if count <= 16 {
-        return judge_few(format, edition, image, start, end);
+    let keys = key_count(format, count);
+    if keys <= 4 {
+        let mut none = [0u64; 0];
+        return judge_image(&mut none, format, edition, image, start, end);
     }
-    if count <= 512 {
-        return judge_some(format, edition, image, start, end);
-    }
-    judge_many(format, edition, image, start, end)
+    let mut filter = [0u64; 64];
+    judge_sized(&mut filter, format, edition, image, start, end, keys)
 }
 
 fn refused(number: u32, place: usize) -> Taken

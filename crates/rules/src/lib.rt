@@ -169,21 +169,16 @@ fn judge_all(
     Fields::Unsound(11, 0)
 }
 
-// The same, with a filter of 64 bytes, of 2,048 and of 49,152.
-fn judge_few(format: Format, edition: u32, fields: &[u8], values: &[u8]) -> Fields
-    ensures { λ r. ⌜ r ≡ judgedFields format edition (fieldsIn (now (fields .entry))) (now (values .entry)) ⌝ }
-{
-    let mut filter = [0u64; 8];
-    judge_all(&mut filter, format, edition, fields, values)
+// The number of keys that are to be told apart, at most.
+fn key_count(format: Format, count: usize) -> usize {
+    match format {
+        Format::Fboss => 0,
+        Format::Vpd => count,
+        Format::Tiny => 0,
+    }
 }
 
-fn judge_some(format: Format, edition: u32, fields: &[u8], values: &[u8]) -> Fields
-    ensures { λ r. ⌜ r ≡ judgedFields format edition (fieldsIn (now (fields .entry))) (now (values .entry)) ⌝ }
-{
-    let mut filter = [0u64; 256];
-    judge_all(&mut filter, format, edition, fields, values)
-}
-
+// The same with a filter for any number of keys, of 49,152 bytes.
 fn judge_many(format: Format, edition: u32, fields: &[u8], values: &[u8]) -> Fields
     ensures { λ r. ⌜ r ≡ judgedFields format edition (fieldsIn (now (fields .entry))) (now (values .entry)) ⌝ }
 {
@@ -191,16 +186,37 @@ fn judge_many(format: Format, edition: u32, fields: &[u8], values: &[u8]) -> Fie
     judge_all(&mut filter, format, edition, fields, values)
 }
 
-// The pass over a field list, with a filter in which few of its keys collide.
+// The same with the filter that is lent, which serves two keys for each word, or with a larger one.
+// It calls itself, and so the compiler gives it no room for the filter of judge_many, which a call on few keys would have to touch.
+fn judge_sized(
+    filter: &mut [u64],
+    format: Format,
+    edition: u32,
+    fields: &[u8],
+    values: &[u8],
+    keys: usize,
+) -> Fields
+    ensures { λ r. ⌜ r ≡ judgedFields format edition (fieldsIn (now (fields .entry))) (now (values .entry)) ⌝ }
+{
+    if keys / 2 <= filter.len() {
+        return judge_all(filter, format, edition, fields, values);
+    }
+    if keys <= 512 {
+        let mut larger = [0u64; 256];
+        return judge_sized(&mut larger, format, edition, fields, values, keys);
+    }
+    judge_many(format, edition, fields, values)
+}
+
+// The pass over a field list, without a filter for few keys.
 pub fn judge_fields(format: Format, edition: u32, fields: &[u8], values: &[u8]) -> Fields
     ensures { λ r. ⌜ r ≡ judgedFields format edition (fieldsIn (now (fields .entry))) (now (values .entry)) ⌝ }
 {
-    let n = fields::count_fields(fields);
-    if n <= 16 {
-        return judge_few(format, edition, fields, values);
+    let keys = key_count(format, fields::count_fields(fields));
+    if keys <= 4 {
+        let mut none = [0u64; 0];
+        return judge_all(&mut none, format, edition, fields, values);
     }
-    if n <= 512 {
-        return judge_some(format, edition, fields, values);
-    }
-    judge_many(format, edition, fields, values)
+    let mut filter = [0u64; 64];
+    judge_sized(&mut filter, format, edition, fields, values, keys)
 }
