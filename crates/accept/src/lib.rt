@@ -211,15 +211,6 @@ fn judge_image(
     }
 }
 
-// The number of keys that are to be told apart, at most.
-fn key_count(format: Format, count: usize) -> usize {
-    match format {
-        Format::Fboss => 0,
-        Format::Vpd => count,
-        Format::Tiny => 0,
-    }
-}
-
 // The same with a filter for any number of keys, of 49,152 bytes.
 fn judge_many(format: Format, edition: u32, image: &[u8], start: usize, end: usize) -> Judgement
     requires { ⌜ (start ≤ end) × IsDone (walked format (now image) start end) ⌝ }
@@ -265,8 +256,8 @@ fn judge_entries(
     requires { ⌜ (start ≤ end) × IsDone (walked format (now image) start end) ⌝ }
     ensures { λ r. ⌜ r ≡ judged format edition (rawsIn (walked format (now (image .entry)) start end)) start ⌝ }
 {
-    let keys = key_count(format, count);
-    if keys <= 4 {
+    let keys = keys::key_count(format, count);
+    if keys <= 3 {
         let mut none = [0u64; 0];
         return judge_image(&mut none, format, edition, image, start, end);
     }

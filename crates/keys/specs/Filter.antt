@@ -6,6 +6,8 @@ use mathlib.Core.Bool.{Bool, true, false}
 use lib.ListN.{length, getD, set}
 use lib.Bits.{bitOr}
 use lib.Dec.{eqb}
+use Rattle.layout.specs.declared.Format.{Format}
+use Rattle.layout.specs.declared.Format.the-variants.{Fboss, Vpd, Tiny}
 use Rattle.layout.specs.Bytes.{if}
 
 -- one byte taken into a hash of 32 bits
@@ -49,3 +51,9 @@ mayRepeat words code key = if (eqb code 1) (λ _. mayKnow words key) (λ _. true
 -- the filter once an entry of this code and key was passed
 unfoldable pub withKey : List ℕ → ℕ → List ℕ → List ℕ
 withKey words code key = if (eqb code 1) (λ _. noted words key) (λ _. words)
+
+-- how many keys there can be among so many entries: only those of VPD have keys
+abbrev pub keyCount : Format → ℕ → ℕ
+keyCount Fboss n = 0
+keyCount Vpd n = n
+keyCount Tiny n = 0

@@ -2,7 +2,8 @@
 ghost use mathlib.Core.Path.{_≡_};
 ghost use Prim.Native.Nat.{_<_};
 ghost use lib.ListN.{length};
-ghost use Rattle.keys.specs.Filter.{hashByte, hashed, wordAt, bitAt, mask, mayKnow, noted, mayRepeat, withKey};
+ghost use Rattle.keys.specs.Filter.{hashByte, hashed, wordAt, bitAt, mask, mayKnow, noted, mayRepeat, withKey, keyCount};
+use layout::Format;
 
 // One byte taken into a hash.
 fn hash_byte(h: u32, b: u8) -> u32
@@ -71,4 +72,15 @@ pub fn note_key(filter: &mut [u64], code: u32, key: &[u8]) -> bool
         return true;
     }
     set_bits(filter, key)
+}
+
+// How many keys there can be among so many entries.
+pub fn key_count(format: Format, count: usize) -> usize
+    ensures { λ r. ⌜ r ≡ keyCount format count ⌝ }
+{
+    match format {
+        Format::Fboss => 0,
+        Format::Vpd => count,
+        Format::Tiny => 0,
+    }
 }

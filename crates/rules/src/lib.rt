@@ -169,15 +169,6 @@ fn judge_all(
     Fields::Unsound(11, 0)
 }
 
-// The number of keys that are to be told apart, at most.
-fn key_count(format: Format, count: usize) -> usize {
-    match format {
-        Format::Fboss => 0,
-        Format::Vpd => count,
-        Format::Tiny => 0,
-    }
-}
-
 // The same with a filter for any number of keys, of 49,152 bytes.
 fn judge_many(format: Format, edition: u32, fields: &[u8], values: &[u8]) -> Fields
     ensures { λ r. ⌜ r ≡ judgedFields format edition (fieldsIn (now (fields .entry))) (now (values .entry)) ⌝ }
@@ -212,8 +203,8 @@ fn judge_sized(
 pub fn judge_fields(format: Format, edition: u32, fields: &[u8], values: &[u8]) -> Fields
     ensures { λ r. ⌜ r ≡ judgedFields format edition (fieldsIn (now (fields .entry))) (now (values .entry)) ⌝ }
 {
-    let keys = key_count(format, fields::count_fields(fields));
-    if keys <= 4 {
+    let keys = keys::key_count(format, fields::count_fields(fields));
+    if keys <= 3 {
         let mut none = [0u64; 0];
         return judge_all(&mut none, format, edition, fields, values);
     }
