@@ -2,7 +2,7 @@
 -- Assumes nothing.
 use Prim.Native.Nat.{ℕ, _+_, _*_, _/_, _%_, _^_}
 use mathlib.Core.List.{List, [], _∷_}
-use mathlib.Core.Bool.{Bool, true, false}
+use mathlib.Core.Bool.{Bool, true}
 use lib.ListN.{length, getD, set}
 use lib.Bits.{bitOr}
 use lib.Dec.{eqb}
@@ -32,7 +32,7 @@ bitAt x = 2 ^ (x % 64)
 unfoldable pub mask : ℕ → ℕ
 mask h = bitOr (bitOr (bitOr (bitAt (h * 0x85EBCA6B / 2 ^ 14)) (bitAt (h * 0x85EBCA6B / 2 ^ 20))) (bitAt (h * 0x85EBCA6B / 2 ^ 26))) (bitAt (h * 0x85EBCA6B / 2 ^ 32))
 
--- a word with the bits of a mask, and whether it has them
+-- whether a word has all bits of a mask
 abbrev pub hasMask : ℕ → ℕ → Bool
 hasMask w m = eqb (bitOr w m) w
 

@@ -1,7 +1,6 @@
 // A filter of keys, in words that the caller lends: a key that it does not know was never noted in it.
 ghost use mathlib.Core.Path.{_≡_};
 ghost use Prim.Native.Nat.{_<_};
-ghost use lib.ListN.{length};
 ghost use Rattle.keys.specs.Filter.{hashByte, hashed, wordAt, bitAt, mask, mayKnow, noted, mayRepeat, withKey, keyCount};
 use layout::Format;
 

@@ -17,10 +17,6 @@ use Rattle.laws.proofs.Frames.{rawOf}
 use Rattle.accept.proofs.Judging.{fault-unnamed, fault-key, fault-value, fault-seen, raw-key, raw-value}
 use Rattle.accept.proofs.fault_at.Statement.{statement}
 use Rattle.accept.proofs.fault_at.Tie as tie
-use Rattle.accept.proofs.fault_at.Reads as reads
-use Rattle.accept.proofs.fault_at.Lts as lts
-use Rattle.accept.proofs.is_seen.Reads as is-seen-reads
-use Rattle.frames.proofs.part_of.Reads as part-of-reads
 
 is-named-requires : tie.Need-is-named-requires
 is-named-requires c κs = search needs

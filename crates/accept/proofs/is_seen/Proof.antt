@@ -10,9 +10,6 @@ use Rattle.laws.proofs.Seen.{AlwaysTwice, fboss-always, tiny-always, vpd-always
 use Rattle.accept.proofs.Seen.{marked-seen}
 use Rattle.accept.proofs.is_seen.Statement.{statement}
 use Rattle.accept.proofs.is_seen.Tie as tie
-use Rattle.accept.proofs.is_seen.Reads as reads
-use Rattle.accept.proofs.is_seen.Lts as lts
-use Rattle.accept.proofs.seen_key.Reads as seen-key-reads
 
 enum-told : tie.Need-enum-told
 enum-told c = search needs

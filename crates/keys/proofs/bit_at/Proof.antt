@@ -8,8 +8,6 @@ use lib.Dec.{lit<}
 use Rattle.keys.specs.Filter.{bitAt}
 use Rattle.keys.proofs.bit_at.Statement.{statement}
 use Rattle.keys.proofs.bit_at.Tie as tie
-use Rattle.keys.proofs.bit_at.Reads as reads
-use Rattle.keys.proofs.bit_at.Lts as lts
 
 shl-result : tie.Need-shl-result
 shl-result c = search needs

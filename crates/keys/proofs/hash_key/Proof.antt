@@ -1,9 +1,7 @@
 -- `keys::hash_key` meets its contract: it takes in each byte.
 -- Assumes nothing.
 use Prim.Native.Nat.{_-_}
-use mathlib.Core.Path.{refl}
 use borrow.Author.Needs.{needs}
-use native.Mathlib.Omega.{arith}
 use lib.ListN.{length}
 use Rattle.keys.specs.Filter.{hashed}
 use Rattle.keys.proofs.Hashing.{Hashing, turn, over}

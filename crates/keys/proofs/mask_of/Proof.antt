@@ -1,6 +1,5 @@
 -- `keys::mask_of` meets its contract: four bits, by four parts of a product.
 -- Assumes nothing.
-use mathlib.Core.Path.{_≡_, refl}
 use borrow.Author.Needs.{needs}
 use Rattle.keys.specs.Filter.{mask}
 use Rattle.keys.proofs.mask_of.Statement.{statement}

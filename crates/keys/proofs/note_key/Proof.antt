@@ -1,14 +1,10 @@
 -- `keys::note_key` meets its contract: only code 01h is noted.
 -- Assumes nothing.
-use mathlib.Core.Path.{sym}
 use borrow.Author.Needs.{needs}
 use borrow.Author.Tests.{eq-eqb, ne-eqb}
 use Rattle.keys.specs.Filter.{mayRepeat, withKey}
 use Rattle.keys.proofs.note_key.Statement.{statement}
 use Rattle.keys.proofs.note_key.Tie as tie
-use Rattle.keys.proofs.note_key.Reads as reads
-use Rattle.keys.proofs.note_key.Lts as lts
-use Rattle.keys.proofs.set_bits.Reads as set-bits-reads
 
 returns : tie.Need-returns
 unfolding mayRepeat withKey

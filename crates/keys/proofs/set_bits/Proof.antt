@@ -8,11 +8,6 @@ use Rattle.keys.specs.Filter.{wordAt, mask, noted}
 use Rattle.keys.proofs.Knowing.{finds-none, finds, noted-none}
 use Rattle.keys.proofs.set_bits.Statement.{statement}
 use Rattle.keys.proofs.set_bits.Tie as tie
-use Rattle.keys.proofs.set_bits.Reads as reads
-use Rattle.keys.proofs.set_bits.Lts as lts
-use Rattle.keys.proofs.hash_key.Reads as hash-key-reads
-use Rattle.keys.proofs.mask_of.Reads as mask-of-reads
-use Rattle.keys.proofs.word_at.Reads as word-at-reads
 
 returns : tie.Need-returns
 returns c =

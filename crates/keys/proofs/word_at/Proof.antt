@@ -8,8 +8,6 @@ use Rattle.keys.specs.Filter.{wordAt}
 use Rattle.keys.proofs.Hashing.{product-most, word-in}
 use Rattle.keys.proofs.word_at.Statement.{statement}
 use Rattle.keys.proofs.word_at.Tie as tie
-use Rattle.keys.proofs.word_at.Reads as reads
-use Rattle.keys.proofs.word_at.Lts as lts
 
 mul-result : tie.Need-mul-result
 mul-result c = record { fits = omega (arith, product-most (c .args .h) (c .args .n % 65536) (search needs)) }
