@@ -23,6 +23,8 @@ use Rattle.laws.proofs.Frames.{rawOf, framed-in}
 use Rattle.laws.proofs.Records.{Placed, raw-placed}
 use Rattle.laws.proofs.Passes.{Passing, Onward, pass-on, pass-first, before-past, raw-code, part-byte, part-most, part-within}
 use Rattle.laws.proofs.Formats.{laws}
+use Rattle.keys.specs.Filter.{mayRepeat, withKey}
+use Rattle.keys.proofs.Seen.{keySeen, Knows, none-known, one-known, unknown-unseen}
 
 -- ---- the fault of one entry, by the tests that lead to it
 
@@ -69,23 +71,25 @@ labels-snoc : (rs : List Raw) (r : Raw) → labels (rs ++ (r ∷ [])) ≡ labels
 labels-snoc [] r = refl
 labels-snoc (x ∷ rs) r = ap (λ (l : List Label). labelOf (content x) ∷ l) (labels-snoc rs r)
 
--- the loop stands at p: the judgement of all entries is that of those to do, after those passed; and the codes passed are marked
-pub record Judging (f : Format) (e : ℕ) (image : List ℕ) (start end p : ℕ) (shut : Bool) (marks : List ℕ) : Type 0 where
+-- the loop stands at p: the judgement of all entries is that of those to do, after those passed; the codes passed are marked, and the filter knows the keys
+pub record Judging (f : Format) (e : ℕ) (image : List ℕ) (start end p : ℕ) (shut : Bool) (marks words : List ℕ) : Type 0 where
   pub pass : Passing (shape f) (grammar f) image start end (rawsIn (walked f image start end)) p shut
   pub isMarked : Marks (codesOf (pass .past)) marks
+  pub isKnown : Knows (labels (pass .past)) words
   pub left : judge (shape f) e [] (rawsIn (walked f image start end)) start ≡ judge (shape f) e (labels (pass .past)) (pass .todo) p
 
-pub judging-first : (f : Format) (e : ℕ) (image : List ℕ) (start end : ℕ) → start ≤ end → IsDone (walked f image start end) →
-    Judging f e image start end start false (replicate 256 0)
-judging-first f e image start end le d =
+pub judging-first : (f : Format) (e : ℕ) (image : List ℕ) (start end : ℕ) (words : List ℕ) → start ≤ end → IsDone (walked f image start end) →
+    Judging f e image start end start false (replicate 256 0) words
+judging-first f e image start end words le d =
     let g = pass-first f image start end le d in
     record {
       pass = g .pass;
       isMarked = rw (g .past) none-marked;
+      isKnown = rw (g .past) (none-known words);
       left = ap₂ (λ (x y : List Raw). judge (shape f) e (labels x) y start) (sym (g .past)) (sym (g .todo));
     }
 
-module _ (f : Format) (e : ℕ) (image : List ℕ) (start end p : ℕ) (shut : Bool) (marks : List ℕ) (w : Judging f e image start end p shut marks) where
+module _ (f : Format) (e : ℕ) (image : List ℕ) (start end p : ℕ) (shut : Bool) (marks words : List ℕ) (w : Judging f e image start end p shut marks words) where
   -- the codes before p are those marked
   pub marks-before : start ≤ end → IsDone (walked f image start end) → Marks (codesOf (before (rawsIn (walked f image start end)) start p)) marks
   marks-before le d = rw (before-past f image start end p shut le d (w .pass)) (w .isMarked)
@@ -117,6 +121,17 @@ module _ (f : Format) (e : ℕ) (image : List ℕ) (start end p : ℕ) (shut : B
         = sym (part-byte image p (end - p) 0 some) ∙ ap (λ (l : List ℕ). getD l 0 0) room ∙ raw-code (laws f) (o .raw) (flat (o .todo) ++ w .pass .rest) (o .isRaw) ∙ ap (λ (y : Frame). y .code) (o .frame) in
         rw code at (bytes (p + 0))
 
+    -- the key is that of the entry
+    key-is : content (onward .raw) .key ≡ part (p + x .key) (x .klen) image
+    key-is = ap (λ (r : Raw). content r .key) (onward .isRawOf) ∙ raw-key image p end x (frame-parts .2) (frame-parts .0)
+
+    -- a key that the filter does not know was not seen
+    pub key-unseen : (known : Bool) → start ≤ end → IsDone (walked f image start end) → known ≡ mayRepeat words (x .code) (part (p + x .key) (x .klen) image) → known ≡ false →
+        keySeen (labels (before (rawsIn (walked f image start end)) start p)) (part (p + x .key) (x .klen) image) ≡ false
+    key-unseen known le d q n =
+        rw (before-past f image start end p shut le d (w .pass))
+        (unknown-unseen (labels (w .pass .past)) words (x .code) (part (p + x .key) (x .klen) image) (w .isKnown) (sym q ∙ n))
+
     -- the entries that are left, one apart
     judged-one : judge (shape f) e [] (rawsIn (walked f image start end)) start ≡
         orElse (fault (shape f) e (labels (w .pass .past)) (content (rawOf x (part p (end - p) image)))) p
@@ -143,25 +158,28 @@ module _ (f : Format) (e : ℕ) (image : List ℕ) (start end p : ℕ) (shut : B
     -- no fault, and the pass goes on
     pub judging-on : start ≤ end → IsDone (walked f image start end) → x .code < 256 →
         0 ≡ fault (shape f) e (labels (before (rawsIn (walked f image start end)) start p)) (content (rawOf x (part p (end - p) image))) →
-        Judging f e image start end (p + x .size) (shape f .last (x .code)) (set marks (x .code) 1)
+        Judging f e image start end (p + x .size) (shape f .last (x .code)) (set marks (x .code) 1) (withKey words (x .code) (part (p + x .key) (x .klen) image))
     judging-on le d lt q =
         let o = onward in
         let none : fault (shape f) e (labels (w .pass .past)) (content (rawOf x (part p (end - p) image))) ≡ 0
         = sym (q ∙ ap (λ (l : List Raw). fault (shape f) e (labels l) (content (rawOf x (part p (end - p) image)))) (before-past f image start end p shut le d (w .pass))) in
         let codes : codesOf (o .on .past) ≡ codesOf (w .pass .past) ++ (x .code ∷ [])
         = ap codesOf (o .pastOn) ∙ codes-snoc (w .pass .past) (o .raw) ∙ ap (λ (y : Frame). codesOf (w .pass .past) ++ (y .code ∷ [])) (o .frame) in
+        let noted : withKey words (content (o .raw) .code) (content (o .raw) .key) ≡ withKey words (x .code) (part (p + x .key) (x .klen) image)
+        = ap₂ (withKey words) (ap (λ (r : Raw). content r .code) (o .isRawOf) ∙ raw-code-is x (part p (end - p) image)) key-is in
         let seen : labels (o .on .past) ≡ labels (w .pass .past) ++ (labelOf (content (o .raw)) ∷ []) = ap labels (o .pastOn) ∙ labels-snoc (w .pass .past) (o .raw) in
         record {
           pass = o .on;
           isMarked = rw codes (one-marked (codesOf (w .pass .past)) marks (x .code) lt (w .isMarked));
+          isKnown = rw seen (rw noted at (one-known (labels (w .pass .past)) words (labelOf (content (o .raw))) (w .isKnown)));
           left = judged-one ∙ (rw none (ap₂ (λ (l : List Label) (t : List Raw). judge (shape f) e l t (p + x .size)) (sym seen) (sym (o .todoOn))));
         }
 
 -- the pass came to its end: all entries are fine, and the marks tell whether they are complete
-pub judged-end : (f : Format) (e : ℕ) (image : List ℕ) (start end p : ℕ) (shut : Bool) (marks : List ℕ) (w : Judging f e image start end p shut marks) → w .pass .todo ≡ [] →
+pub judged-end : (f : Format) (e : ℕ) (image : List ℕ) (start end p : ℕ) (shut : Bool) (marks words : List ℕ) (w : Judging f e image start end p shut marks words) → w .pass .todo ≡ [] →
     (judge (shape f) e [] (rawsIn (walked f image start end)) start ≡ fine) × (allMarked (shape f .required) marks ≡ complete (shape f .required) (codesOf (rawsIn (walked f image start end))))
 unfolding judge
-judged-end f e image start end p shut marks w t =
+judged-end f e image start end p shut marks words w t =
     let all : rawsIn (walked f image start end) ≡ w .pass .past = w .pass .joined ∙ ap (λ (l : List Raw). w .pass .past ++ l) t ∙ append-nil (w .pass .past) in (
       w .left ∙ ap (λ (l : List Raw). judge (shape f) e (labels (w .pass .past)) l p) t,
       marked-complete (shape f .required) (codesOf (w .pass .past)) marks (required-bytes f) (w .isMarked) ∙ ap (λ (l : List Raw). complete (shape f .required) (codesOf l)) (sym all),

@@ -9,6 +9,7 @@ ghost use Rattle.layout.specs.Walk.{content};
 ghost use Rattle.layout.specs.Read.{seenBefore, codesOf, fault, readWalked};
 ghost use Rattle.laws.specs.Passes.{walked, IsDone, rawsIn, labels, before};
 ghost use Rattle.laws.proofs.Marks.{Marks};
+ghost use Rattle.keys.proofs.Seen.{keySeen};
 ghost use Rattle.accept.specs.Passes.{endingOf, judged};
 ghost use Rattle.accept.specs.Taken.{roomTaken, taken};
 use layout::Chosen;
@@ -98,7 +99,7 @@ fn seen_key(image: &[u8], start: usize, end: usize, p: usize, key: &[u8]) -> boo
     false
 }
 
-// Whether the entry of this code and key, at p, comes a second time.
+// Whether the entry of this code and key, at p, comes a second time; a VPD 01h does not where its key is not known.
 fn is_seen(
     format: Format,
     image: &[u8],
@@ -107,10 +108,12 @@ fn is_seen(
     p: usize,
     code: u32,
     key: &[u8],
+    known: bool,
     seen: &[u8; 256],
 ) -> bool
     requires { ⌜ (start ≤ end) × IsDone (walked format (now image) start end) × (code < 256) ⌝ }
     requires { ⌜ Marks (codesOf (before (rawsIn (walked format (now image) start end)) start p)) (now seen) ⌝ }
+    requires { ⌜ (known ≡ false → keySeen (labels (before (rawsIn (walked format (now image) start end)) start p)) (now key) ≡ false) ⌝ }
     ensures { λ r. ⌜ r ≡ seenBefore (shape format) (labels (before (rawsIn (walked format (now (image .entry)) start end)) start p)) (record { code = code; key = now (key .entry) }) ⌝ }
 {
     let at = code as usize;
@@ -118,6 +121,9 @@ fn is_seen(
         Format::Fboss => seen[at] != 0,
         Format::Vpd => {
             if code == 1 {
+                if !known {
+                    return false;
+                }
                 return seen_key(image, start, end, p, key);
             }
             seen[at] != 0
@@ -135,11 +141,13 @@ fn fault_at(
     end: usize,
     p: usize,
     f: Frame,
+    known: bool,
     seen: &[u8; 256],
 ) -> u32
     requires { ⌜ (start ≤ end) × IsDone (walked format (now image) start end) × (f .code < 256) ⌝ }
     requires { ⌜ Marks (codesOf (before (rawsIn (walked format (now image) start end)) start p)) (now seen) ⌝ }
     requires { ⌜ (p + f .size ≤ end) × (f .key + f .klen ≤ f .size) × (f .val + f .vlen ≤ f .size) × (f .size ≤ length (part p (end - p) (now image))) ⌝ }
+    requires { ⌜ (known ≡ false → keySeen (labels (before (rawsIn (walked format (now image) start end)) start p)) (part (p + f .key) (f .klen) (now image)) ≡ false) ⌝ }
     ensures { λ r. ⌜ r ≡ fault (shape format) edition (labels (before (rawsIn (walked format (now (image .entry)) start end)) start p)) (content (record { bytes = take (f .size) (part p (end - p) (now (image .entry))); frame = f })) ⌝ }
 {
     let code = f.code;
@@ -153,14 +161,21 @@ fn fault_at(
     if !frames::value_rule(format, code, frames::part_of(image, p + f.val, f.vlen)) {
         return 7;
     }
-    if is_seen(format, image, start, end, p, code, key, seen) {
+    if is_seen(format, image, start, end, p, code, key, known, seen) {
         return 8;
     }
     0
 }
 
-// The rules, entry by entry, and the required fields: one pass over the frames.
-fn judge_image(format: Format, edition: u32, image: &[u8], start: usize, end: usize) -> Judgement
+// The rules, entry by entry, and the required fields: one pass over the frames, with a filter of the keys passed.
+fn judge_image(
+    filter: &mut [u64],
+    format: Format,
+    edition: u32,
+    image: &[u8],
+    start: usize,
+    end: usize,
+) -> Judgement
     requires { ⌜ (start ≤ end) × IsDone (walked format (now image) start end) ⌝ }
     ensures { λ r. ⌜ r ≡ judged format edition (rawsIn (walked format (now (image .entry)) start end)) start ⌝ }
 {
@@ -171,11 +186,13 @@ fn judge_image(format: Format, edition: u32, image: &[u8], start: usize, end: us
         let x = frames::next_frame(format, shut, image, p, end);
         match x {
             Next::Framed(f) => {
-                let k = fault_at(format, edition, image, start, end, p, f, &seen);
+                let code = f.code;
+                let key = frames::part_of(image, p + f.key, f.klen);
+                let known = keys::note_key(filter, code, key);
+                let k = fault_at(format, edition, image, start, end, p, f, known, &seen);
                 if k != 0 {
                     return Judgement::Faulty(k, p);
                 }
-                let code = f.code;
                 let at = code as usize;
                 seen[at] = 1;
                 shut = frames::is_last(format, code);
@@ -192,6 +209,60 @@ fn judge_image(format: Format, edition: u32, image: &[u8], start: usize, end: us
             }
         }
     }
+}
+
+// The same with a filter for any number of keys, of 49,152 bytes.
+fn judge_many(format: Format, edition: u32, image: &[u8], start: usize, end: usize) -> Judgement
+    requires { ⌜ (start ≤ end) × IsDone (walked format (now image) start end) ⌝ }
+    ensures { λ r. ⌜ r ≡ judged format edition (rawsIn (walked format (now (image .entry)) start end)) start ⌝ }
+{
+    let mut filter = [0u64; 6144];
+    judge_image(&mut filter, format, edition, image, start, end)
+}
+
+// The same with the filter that is lent, which serves two keys for each word, or with a larger one.
+// It calls itself, and so the compiler gives it no room for the filter of judge_many, which a call on few keys would have to touch.
+fn judge_sized(
+    filter: &mut [u64],
+    format: Format,
+    edition: u32,
+    image: &[u8],
+    start: usize,
+    end: usize,
+    keys: usize,
+) -> Judgement
+    requires { ⌜ (start ≤ end) × IsDone (walked format (now image) start end) ⌝ }
+    ensures { λ r. ⌜ r ≡ judged format edition (rawsIn (walked format (now (image .entry)) start end)) start ⌝ }
+{
+    if keys / 2 <= filter.len() {
+        return judge_image(filter, format, edition, image, start, end);
+    }
+    if keys <= 512 {
+        let mut larger = [0u64; 256];
+        return judge_sized(&mut larger, format, edition, image, start, end, keys);
+    }
+    judge_many(format, edition, image, start, end)
+}
+
+// The same for so many entries, without a filter for few keys.
+fn judge_entries(
+    format: Format,
+    edition: u32,
+    image: &[u8],
+    start: usize,
+    end: usize,
+    count: usize,
+) -> Judgement
+    requires { ⌜ (start ≤ end) × IsDone (walked format (now image) start end) ⌝ }
+    ensures { λ r. ⌜ r ≡ judged format edition (rawsIn (walked format (now (image .entry)) start end)) start ⌝ }
+{
+    let keys = keys::key_count(format, count);
+    if keys <= 3 {
+        let mut none = [0u64; 0];
+        return judge_image(&mut none, format, edition, image, start, end);
+    }
+    let mut filter = [0u64; 64];
+    judge_sized(&mut filter, format, edition, image, start, end, keys)
 }
 
 fn refused(number: u32, place: usize) -> Taken
@@ -226,7 +297,7 @@ fn take_room(format: Format, edition: u32, image: &[u8], start: usize, end: usiz
             if !frames::is_sealed(format, image, p) {
                 return refused(10, p + closing_length(format));
             }
-            let j = judge_image(format, edition, image, start, end);
+            let j = judge_entries(format, edition, image, start, end, count);
             match j {
                 Judgement::Faulty(k, q) => refused(k, q),
                 Judgement::Fine => Taken::Is(Room {

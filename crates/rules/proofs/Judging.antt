@@ -20,6 +20,8 @@ use Rattle.laws.specs.Marked.{allMarked}
 use Rattle.laws.proofs.Marks.{Marks, none-marked, one-marked, marked-complete}
 use Rattle.laws.proofs.Names.{named-byte, required-bytes}
 use Rattle.laws.proofs.Seen.{labelCodes}
+use Rattle.keys.specs.Filter.{mayRepeat, withKey}
+use Rattle.keys.proofs.Seen.{keySeen, Knows, none-known, one-known, unknown-unseen}
 use Rattle.output.specs.Lengths.{capped}
 use Rattle.output.proofs.Lengths.{capped-min}
 use Rattle.rules.specs.declared.Fields.the-variants.{Sound, Unsound}
@@ -109,24 +111,29 @@ made-snoc S values (y ∷ xs) x =
 
 -- ---- the loop
 
--- the loop stands at field i: the judgement of all fields is that of those to do, after those passed; the codes passed are marked, and what they make is counted
-pub record Judging (f : Format) (e : ℕ) (xs : List Field) (values : List ℕ) (i : ℕ) (shut : Bool) (marks : List ℕ) (total : ℕ) : Type 0 where
+-- the loop stands at field i: the judgement of all fields is that of those to do, after those passed; the codes passed are marked, the filter knows their keys, and what they make is counted
+pub record Judging (f : Format) (e : ℕ) (xs : List Field) (values : List ℕ) (i : ℕ) (shut : Bool) (marks words : List ℕ) (total : ℕ) : Type 0 where
   pub bound : i ≤ length xs
   pub isMarked : Marks (labelCodes (fieldLabels (shape f) values (take i xs))) marks
+  pub isKnown : Knows (fieldLabels (shape f) values (take i xs)) words
   pub left : judgeFields (shape f) e values false [] xs 0 ≡ judgeFields (shape f) e values shut (fieldLabels (shape f) values (take i xs)) (drop i xs) i
   pub counted : total ≡ capped (made (shape f) values (take i xs))
 
-pub judging-first : (f : Format) (e : ℕ) (xs : List Field) (values : List ℕ) → Judging f e xs values 0 false (replicate 256 0) 0
+pub judging-first : (f : Format) (e : ℕ) (xs : List Field) (values words : List ℕ) → Judging f e xs values 0 false (replicate 256 0) words 0
 unfolding entriesBytes
-judging-first f e xs values = record { bound = omega arith; isMarked = none-marked; left = refl; counted = refl }
+judging-first f e xs values words = record { bound = omega arith; isMarked = none-marked; isKnown = none-known words; left = refl; counted = refl }
 
 sound-end : (b : Bool) (total n : ℕ) → total ≡ capped n → if b (λ _. Sound total) (λ _. Unsound 11 0) ≡ soundness fine b n
 sound-end true total n q = ap Sound q
 sound-end false total n q = refl
 
-module _ (f : Format) (e : ℕ) (xs : List Field) (values : List ℕ) (i : ℕ) (shut : Bool) (marks : List ℕ) (total : ℕ) (w : Judging f e xs values i shut marks total) where
+module _ (f : Format) (e : ℕ) (xs : List Field) (values : List ℕ) (i : ℕ) (shut : Bool) (marks words : List ℕ) (total : ℕ) (w : Judging f e xs values i shut marks words total) where
   abbrev seen : List Label
   seen = fieldLabels (shape f) values (take i xs)
+
+  -- a key that the filter does not know was not seen
+  pub key-unseen : (x : Field) (known : Bool) → known ≡ mayRepeat words (x .code) (fieldKey (shape f .keyed) x values) → known ≡ false → keySeen seen (fieldKey (shape f .keyed) x values) ≡ false
+  key-unseen x known q n = unknown-unseen seen words (x .code) (fieldKey (shape f .keyed) x values) (w .isKnown) (sym q ∙ n)
 
   module _ (x : Field) (here : x ≡ getD xs i (fieldAt [])) (lt : i < length xs) where
     past : take (i + 1) xs ≡ take i xs ++ (x ∷ [])
@@ -154,7 +161,7 @@ module _ (f : Format) (e : ℕ) (xs : List Field) (values : List ℕ) (i : ℕ) 
 
     -- no fault, and the pass goes on
     pub judging-on : (k : ℕ) → k ≡ fieldFault (shape f) e values shut seen x → k ≡ 0 → (n : ℕ) → n ≡ capped (length (entryBytes (shape f) (fieldContent (shape f) values x))) →
-        (m : ℕ) → m ≡ capped (total + n) → Judging f e xs values (i + 1) (shape f .last (x .code)) (set marks (x .code) 1) m
+        (m : ℕ) → m ≡ capped (total + n) → Judging f e xs values (i + 1) (shape f .last (x .code)) (set marks (x .code) 1) (withKey words (x .code) (fieldKey (shape f .keyed) x values)) m
     judging-on k q z n nq m mq =
         let labels : fieldLabels (shape f) values (take (i + 1) xs) ≡ seen ++ (labelOf (fieldContent (shape f) values x) ∷ [])
         = ap (fieldLabels (shape f) values) past ∙ labels-snoc (shape f) values (take i xs) x in
@@ -165,6 +172,7 @@ module _ (f : Format) (e : ℕ) (xs : List Field) (values : List ℕ) (i : ℕ) 
         record {
           bound = omega arith;
           isMarked = rw codes (one-marked (labelCodes seen) marks (x .code) (fault-byte k q z) (w .isMarked));
+          isKnown = rw labels (one-known seen words (labelOf (fieldContent (shape f) values x)) (w .isKnown));
           left = judged-one ∙ rw (← q, z) (ap (λ (l : List Label). judgeFields (shape f) e values (shape f .last (x .code)) l (drop (i + 1) xs) (i + 1)) (sym labels));
           counted = rw sum (mq ∙ rw (w .counted, nq) (capped-sum a b));
         }

@@ -1,12 +1,14 @@
 // The writer's rules: a field list is sound, with the length of the entries that it makes, or one of its fields is refused.
 ghost use mathlib.Core.Path.{_≡_};
+ghost use mathlib.Core.Bool.{false};
 ghost use Prim.Native.Nat.{_≤_, _<_};
 ghost use lib.ListN.{length, take};
 ghost use Rattle.layout.specs.Editions.{shape};
 ghost use Rattle.layout.specs.Read.{seenBefore};
-ghost use Rattle.layout.specs.Write.{fieldsIn, fieldContent, writerRule, fieldFault, entryBytes};
+ghost use Rattle.layout.specs.Write.{fieldsIn, fieldKey, fieldContent, writerRule, fieldFault, entryBytes};
 ghost use Rattle.laws.proofs.Marks.{Marks};
 ghost use Rattle.laws.proofs.Seen.{labelCodes};
+ghost use Rattle.keys.proofs.Seen.{keySeen};
 ghost use Rattle.output.specs.Lengths.{capped};
 ghost use Rattle.rules.specs.Fields.{fieldLabels, judgedFields};
 use layout::Field;
@@ -35,7 +37,7 @@ fn seen_key(fields: &[u8], values: &[u8], n: usize, key: &[u8]) -> bool
     false
 }
 
-// Whether a field of this code and key comes a second time after the first n fields.
+// Whether a field of this code and key comes a second time after the first n fields; a VPD 01h does not where its key is not known.
 fn is_seen(
     format: Format,
     fields: &[u8],
@@ -43,10 +45,12 @@ fn is_seen(
     n: usize,
     code: u32,
     key: &[u8],
+    known: bool,
     seen: &[u8; 256],
 ) -> bool
     requires { ⌜ (n ≤ length (fieldsIn (now fields))) × (code < 256) ⌝ }
     requires { ⌜ Marks (labelCodes (fieldLabels (shape format) (now values) (take n (fieldsIn (now fields))))) (now seen) ⌝ }
+    requires { ⌜ (known ≡ false → keySeen (fieldLabels (shape format) (now values) (take n (fieldsIn (now fields)))) (now key) ≡ false) ⌝ }
     ensures { λ r. ⌜ r ≡ seenBefore (shape format) (fieldLabels (shape format) (now (values .entry)) (take n (fieldsIn (now (fields .entry))))) (record { code = code; key = now (key .entry) }) ⌝ }
 {
     let at = code as usize;
@@ -54,6 +58,9 @@ fn is_seen(
         Format::Fboss => seen[at] != 0,
         Format::Vpd => {
             if code == 1 {
+                if !known {
+                    return false;
+                }
                 return seen_key(fields, values, n, key);
             }
             seen[at] != 0
@@ -83,10 +90,12 @@ fn field_fault(
     n: usize,
     x: Field,
     shut: bool,
+    known: bool,
     seen: &[u8; 256],
 ) -> u32
     requires { ⌜ n ≤ length (fieldsIn (now fields)) ⌝ }
     requires { ⌜ Marks (labelCodes (fieldLabels (shape format) (now values) (take n (fieldsIn (now fields))))) (now seen) ⌝ }
+    requires { ⌜ (known ≡ false → keySeen (fieldLabels (shape format) (now values) (take n (fieldsIn (now fields)))) (fieldKey (shape format .keyed) x (now values)) ≡ false) ⌝ }
     ensures { λ r. ⌜ r ≡ fieldFault (shape format) edition (now (values .entry)) shut (fieldLabels (shape format) (now (values .entry)) (take n (fieldsIn (now (fields .entry))))) x ⌝ }
 {
     let code = x.code;
@@ -105,7 +114,7 @@ fn field_fault(
         return 7;
     }
     let key = fields::field_key(format, values, x);
-    if is_seen(format, fields, values, n, code, key, seen) {
+    if is_seen(format, fields, values, n, code, key, known, seen) {
         return 8;
     }
     0
@@ -124,8 +133,14 @@ fn field_length(format: Format, values: &[u8], x: Field) -> usize
     )
 }
 
-// The pass over a field list: 14, 13, 9, 7, 8 field by field, then 11.
-pub fn judge_fields(format: Format, edition: u32, fields: &[u8], values: &[u8]) -> Fields
+// The pass over a field list: 14, 13, 9, 7, 8 field by field, then 11; with a filter of the keys passed.
+fn judge_all(
+    filter: &mut [u64],
+    format: Format,
+    edition: u32,
+    fields: &[u8],
+    values: &[u8],
+) -> Fields
     ensures { λ r. ⌜ r ≡ judgedFields format edition (fieldsIn (now (fields .entry))) (now (values .entry)) ⌝ }
 {
     let mut seen = [0u8; 256];
@@ -135,11 +150,13 @@ pub fn judge_fields(format: Format, edition: u32, fields: &[u8], values: &[u8]) 
     let n = fields::count_fields(fields);
     while i < n {
         let x = fields::field_at(fields, i);
-        let k = field_fault(format, edition, fields, values, i, x, shut, &seen);
+        let code = x.code;
+        let key = fields::field_key(format, values, x);
+        let known = keys::note_key(filter, code, key);
+        let k = field_fault(format, edition, fields, values, i, x, shut, known, &seen);
         if k != 0 {
             return Fields::Unsound(k, i);
         }
-        let code = x.code;
         let at = code as usize;
         seen[at] = 1;
         shut = frames::is_last(format, code);
@@ -150,4 +167,47 @@ pub fn judge_fields(format: Format, edition: u32, fields: &[u8], values: &[u8]) 
         return Fields::Sound(total);
     }
     Fields::Unsound(11, 0)
+}
+
+// The same with a filter for any number of keys, of 49,152 bytes.
+fn judge_many(format: Format, edition: u32, fields: &[u8], values: &[u8]) -> Fields
+    ensures { λ r. ⌜ r ≡ judgedFields format edition (fieldsIn (now (fields .entry))) (now (values .entry)) ⌝ }
+{
+    let mut filter = [0u64; 6144];
+    judge_all(&mut filter, format, edition, fields, values)
+}
+
+// The same with the filter that is lent, which serves two keys for each word, or with a larger one.
+// It calls itself, and so the compiler gives it no room for the filter of judge_many, which a call on few keys would have to touch.
+fn judge_sized(
+    filter: &mut [u64],
+    format: Format,
+    edition: u32,
+    fields: &[u8],
+    values: &[u8],
+    keys: usize,
+) -> Fields
+    ensures { λ r. ⌜ r ≡ judgedFields format edition (fieldsIn (now (fields .entry))) (now (values .entry)) ⌝ }
+{
+    if keys / 2 <= filter.len() {
+        return judge_all(filter, format, edition, fields, values);
+    }
+    if keys <= 512 {
+        let mut larger = [0u64; 256];
+        return judge_sized(&mut larger, format, edition, fields, values, keys);
+    }
+    judge_many(format, edition, fields, values)
+}
+
+// The pass over a field list, without a filter for few keys.
+pub fn judge_fields(format: Format, edition: u32, fields: &[u8], values: &[u8]) -> Fields
+    ensures { λ r. ⌜ r ≡ judgedFields format edition (fieldsIn (now (fields .entry))) (now (values .entry)) ⌝ }
+{
+    let keys = keys::key_count(format, fields::count_fields(fields));
+    if keys <= 3 {
+        let mut none = [0u64; 0];
+        return judge_all(&mut none, format, edition, fields, values);
+    }
+    let mut filter = [0u64; 64];
+    judge_sized(&mut filter, format, edition, fields, values, keys)
 }

@@ -54,7 +54,7 @@ returns-2 c =
     let r : Raw = rawOf f (part (a .p) (a .end - a .p) image) in
     let seen : List Label = labels (before (rawsIn (walked (a .format) image (a .start) (a .end))) (a .start) (a .p)) in
     let n : names S (a .edition) (f .code) ≡ true = sym (c .before .before .before .before .before .is-named .ensures) ∙ not-false _ (c .before .before .before .before .if1 .left) in
-    let key : content r .key ≡ now (c .before .before .part-of .result) = raw-key image (a .p) (a .end) f (st .pre .1 .1 .3) (st .pre .1 .1 .1) ∙ sym (c .before .before .part-of .ensures) in
+    let key : content r .key ≡ now (c .before .before .part-of .result) = raw-key image (a .p) (a .end) f (st .pre .1 .1 .0 .3) (st .pre .1 .1 .0 .1) ∙ sym (c .before .before .part-of .ensures) in
     let k : S .readerKey (f .code) (content r .key) ≡ false = rw key (sym (c .before .reader-key .ensures) ∙ not-true _ (c .if2 .taken)) in
     sym (fault-key S (a .edition) seen (content r) n k)
 
@@ -78,14 +78,16 @@ returns-3 c =
     let r : Raw = rawOf f (part (a .p) (a .end - a .p) image) in
     let seen : List Label = labels (before (rawsIn (walked (a .format) image (a .start) (a .end))) (a .start) (a .p)) in
     let n : names S (a .edition) (f .code) ≡ true = sym (c .before .before .before .before .before .before .before .before .before .is-named .ensures) ∙ not-false _ (c .before .before .before .before .before .before .before .before .if1 .left) in
-    let key : content r .key ≡ now (c .before .before .before .before .before .before .part-of .result) = raw-key image (a .p) (a .end) f (st .pre .1 .1 .3) (st .pre .1 .1 .1) ∙ sym (c .before .before .before .before .before .before .part-of .ensures) in
+    let key : content r .key ≡ now (c .before .before .before .before .before .before .part-of .result) = raw-key image (a .p) (a .end) f (st .pre .1 .1 .0 .3) (st .pre .1 .1 .0 .1) ∙ sym (c .before .before .before .before .before .before .part-of .ensures) in
     let k : S .readerKey (f .code) (content r .key) ≡ true = rw key (sym (c .before .before .before .before .before .reader-key .ensures) ∙ not-false _ (c .before .before .before .before .if2 .left)) in
-    let value : content r .value ≡ now (c .before .before .part-of2 .result) = raw-value image (a .p) (a .end) f (st .pre .1 .1 .3) (st .pre .1 .1 .2) ∙ sym (c .before .before .part-of2 .ensures) in
+    let value : content r .value ≡ now (c .before .before .part-of2 .result) = raw-value image (a .p) (a .end) f (st .pre .1 .1 .0 .3) (st .pre .1 .1 .0 .2) ∙ sym (c .before .before .part-of2 .ensures) in
     let v : S .valueRule (f .code) (content r .value) ≡ false = rw value (sym (c .before .value-rule .ensures) ∙ not-true _ (c .if3 .taken)) in
     sym (fault-value S (a .edition) seen (content r) n k v)
 
 is-seen-requires : tie.Need-is-seen-requires
-is-seen-requires c κs = search needs
+is-seen-requires c κs =
+    let st = c .before .before .before .before .before .before .before .before .before .before .before in
+    (st .pre .0, (st .pre .1 .0, λ n. rw (c .before .before .before .before .before .before .part-of .ensures) (st .pre .1 .1 .1 n)))
 
 returns-4 : tie.Need-returns-4
 unfolding content
@@ -98,9 +100,9 @@ returns-4 c =
     let r : Raw = rawOf f (part (a .p) (a .end - a .p) image) in
     let seen : List Label = labels (before (rawsIn (walked (a .format) image (a .start) (a .end))) (a .start) (a .p)) in
     let n : names S (a .edition) (f .code) ≡ true = sym (c .before .before .before .before .before .before .before .before .before .before .before .is-named .ensures) ∙ not-false _ (c .before .before .before .before .before .before .before .before .before .before .if1 .left) in
-    let key : content r .key ≡ now (c .before .before .before .before .before .before .before .before .part-of .result) = raw-key image (a .p) (a .end) f (st .pre .1 .1 .3) (st .pre .1 .1 .1) ∙ sym (c .before .before .before .before .before .before .before .before .part-of .ensures) in
+    let key : content r .key ≡ now (c .before .before .before .before .before .before .before .before .part-of .result) = raw-key image (a .p) (a .end) f (st .pre .1 .1 .0 .3) (st .pre .1 .1 .0 .1) ∙ sym (c .before .before .before .before .before .before .before .before .part-of .ensures) in
     let k : S .readerKey (f .code) (content r .key) ≡ true = rw key (sym (c .before .before .before .before .before .before .before .reader-key .ensures) ∙ not-false _ (c .before .before .before .before .before .before .if2 .left)) in
-    let value : content r .value ≡ now (c .before .before .before .before .part-of2 .result) = raw-value image (a .p) (a .end) f (st .pre .1 .1 .3) (st .pre .1 .1 .2) ∙ sym (c .before .before .before .before .part-of2 .ensures) in
+    let value : content r .value ≡ now (c .before .before .before .before .part-of2 .result) = raw-value image (a .p) (a .end) f (st .pre .1 .1 .0 .3) (st .pre .1 .1 .0 .2) ∙ sym (c .before .before .before .before .part-of2 .ensures) in
     let v : S .valueRule (f .code) (content r .value) ≡ true = rw value (sym (c .before .before .before .value-rule .ensures) ∙ not-false _ (c .before .before .if3 .left)) in
     let s : seenBefore S seen (labelOf (content r)) ≡ true = rw key (sym (c .before .is-seen .ensures) ∙ c .if4 .taken) in
     sym (fault-seen S (a .edition) seen (content r) n k v true s)
@@ -116,9 +118,9 @@ returns-5 c =
     let r : Raw = rawOf f (part (a .p) (a .end - a .p) image) in
     let seen : List Label = labels (before (rawsIn (walked (a .format) image (a .start) (a .end))) (a .start) (a .p)) in
     let n : names S (a .edition) (f .code) ≡ true = sym (c .before .before .before .before .before .before .before .before .before .before .before .is-named .ensures) ∙ not-false _ (c .before .before .before .before .before .before .before .before .before .before .if1 .left) in
-    let key : content r .key ≡ now (c .before .before .before .before .before .before .before .before .part-of .result) = raw-key image (a .p) (a .end) f (st .pre .1 .1 .3) (st .pre .1 .1 .1) ∙ sym (c .before .before .before .before .before .before .before .before .part-of .ensures) in
+    let key : content r .key ≡ now (c .before .before .before .before .before .before .before .before .part-of .result) = raw-key image (a .p) (a .end) f (st .pre .1 .1 .0 .3) (st .pre .1 .1 .0 .1) ∙ sym (c .before .before .before .before .before .before .before .before .part-of .ensures) in
     let k : S .readerKey (f .code) (content r .key) ≡ true = rw key (sym (c .before .before .before .before .before .before .before .reader-key .ensures) ∙ not-false _ (c .before .before .before .before .before .before .if2 .left)) in
-    let value : content r .value ≡ now (c .before .before .before .before .part-of2 .result) = raw-value image (a .p) (a .end) f (st .pre .1 .1 .3) (st .pre .1 .1 .2) ∙ sym (c .before .before .before .before .part-of2 .ensures) in
+    let value : content r .value ≡ now (c .before .before .before .before .part-of2 .result) = raw-value image (a .p) (a .end) f (st .pre .1 .1 .0 .3) (st .pre .1 .1 .0 .2) ∙ sym (c .before .before .before .before .part-of2 .ensures) in
     let v : S .valueRule (f .code) (content r .value) ≡ true = rw value (sym (c .before .before .before .value-rule .ensures) ∙ not-false _ (c .before .before .if3 .left)) in
     let s : seenBefore S seen (labelOf (content r)) ≡ false = rw key (sym (c .before .is-seen .ensures) ∙ c .if4 .left) in
     sym (fault-seen S (a .edition) seen (content r) n k v false s)

@@ -53,8 +53,8 @@ returns c =
     let s = sym (c .before .before .before .is-sealed .ensures) ∙ not-true _ (c .before .before .if1 .taken) in
     c .refused2 .ensures ∙ ap (λ (k : ℕ). Isnt (refusal 10 (p + k))) (c .before .closing-length .ensures) ∙ sym (room-unsealed (a .format) (a .edition) image (a .start) (a .end) n p d s)
 
-judge-image-requires : tie.Need-judge-image-requires
-judge-image-requires c κs =
+judge-entries-requires : tie.Need-judge-entries-requires
+judge-entries-requires c κs =
     let a = c .before .before .before .before .before .before .before .args in
     let image = now (a .image) in
     let n = c .before .before .before .w2 .given .0 .0 in
@@ -89,7 +89,7 @@ returns-3 c =
     let s = sym (c .before .before .before .before .before .before .is-sealed .ensures) ∙ not-false _ (c .before .before .before .before .before .if1 .left) in
     let k = c .before .before .j .given .0 .0 in
     let q = c .before .before .j .given .0 .1 .0 in
-    c .refused3 .ensures ∙ sym (room-faulty (a .format) (a .edition) image (a .start) (a .end) n p d k q s (sym (c .before .before .j .given .1) ∙ c .before .before .before .before .judge-image .ensures))
+    c .refused3 .ensures ∙ sym (room-faulty (a .format) (a .edition) image (a .start) (a .end) n p d k q s (sym (c .before .before .j .given .1) ∙ c .before .before .before .before .judge-entries .ensures))
 
 returns-4 : tie.Need-returns-4
 returns-4 c =
@@ -99,7 +99,7 @@ returns-4 c =
     let p = c .before .before .before .before .before .before .w2 .given .0 .1 .0 in
     let d = ends-done (a .format) image (a .start) (a .end) n p (sym (c .before .before .before .before .before .before .before .before .walk-image .ensures) ∙ c .before .before .before .before .before .before .w2 .given .1) in
     let s = sym (c .before .before .before .before .is-sealed .ensures) ∙ not-false _ (c .before .before .before .if1 .left) in
-    sym (room-fine (a .format) (a .edition) image (a .start) (a .end) n p d s (sym (c .enum-told .given .1) ∙ c .before .before .judge-image .ensures))
+    sym (room-fine (a .format) (a .edition) image (a .start) (a .end) n p d s (sym (c .enum-told .given .1) ∙ c .before .before .judge-entries .ensures))
 
 pub take-room-spec : {M : Type 1} → statement M
 take-room-spec =
@@ -114,7 +114,7 @@ take-room-spec =
     add-refused
     refused-requires-2
     returns
-    judge-image-requires
+    judge-entries-requires
     enum-known-j
     refused-requires-3
     enum-told

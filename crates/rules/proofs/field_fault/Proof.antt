@@ -73,7 +73,7 @@ is-seen-requires c κs =
     let st = c .before .before .before .before .before .before .before .before .before .before in
     let a = st .args in
     let n : names (shape (a .format)) (a .edition) (a .x .code) ≡ true = sym (c .before .before .before .before .before .before .before .is-named .ensures) ∙ not-false _ (c .before .before .before .before .before .if1 .left) in
-    ((st .pre .0, named-byte (a .format) (a .edition) (a .x .code) n), st .pre .1)
+    ((st .pre .0, named-byte (a .format) (a .edition) (a .x .code) n), (st .pre .1 .0, λ m. rw (c .field-key .ensures) (st .pre .1 .1 m)))
 
 returns-5 : tie.Need-returns-5
 returns-5 c =

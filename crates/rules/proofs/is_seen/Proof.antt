@@ -1,6 +1,8 @@
 -- `rules::is_seen` meets its contract: by the marks, or for a VPD 01h by the key.
 -- Assumes nothing.
 use borrow.Author.Needs.{needs}
+use borrow.Author.Tests.{not-true}
+use mathlib.Core.Path.{sym}
 use denote.Ref.{now}
 use lib.ListN.{take}
 use Rattle.layout.specs.Editions.{shape}
@@ -19,11 +21,16 @@ element-copy-out-result c = search needs
 enum-told-2 : tie.Need-enum-told-2
 enum-told-2 c = search needs
 
+returns : tie.Need-returns
+returns c =
+    let st = c .before .before .before .before .before .before .before in
+    rw (c .before .before .enum-told2 .given .1, c .before .if1 .taken) (sym (rw (c .before .before .enum-told2 .given .1) at (st .pre .1 .1 (not-true _ (c .if2 .taken)))))
+
 seen-key-requires : tie.Need-seen-key-requires
 seen-key-requires c κs = search needs
 
-returns : tie.Need-returns
-returns c = rw (c .before .before .enum-told2 .given .1, c .before .if1 .taken) (c .seen-key .ensures)
+returns-2 : tie.Need-returns-2
+returns-2 c = rw (c .before .before .before .enum-told2 .given .1, c .before .before .if1 .taken) (c .seen-key .ensures)
 
 element-copy-out-result-2 : tie.Need-element-copy-out-result-2
 element-copy-out-result-2 c = search needs
@@ -34,29 +41,29 @@ enum-told-3 c = search needs
 element-copy-out-result-3 : tie.Need-element-copy-out-result-3
 element-copy-out-result-3 c = search needs
 
-returns-2 : tie.Need-returns-2
-returns-2 c =
+returns-3 : tie.Need-returns-3
+returns-3 c =
     let st = c .before .before .before .before .before .before in
     let a = st .args in
     let seen = fieldLabels (shape (a .format)) (now (a .values)) (take (a .n) (fieldsIn (now (a .fields)))) in
     let always : AlwaysTwice (a .format) (a .code) = rw (c .before .enum-told .given .1) (fboss-always (a .code)) in
-    marked-seen (a .format) (a .code) (now (a .key)) seen (now (a .seen)) always (st .pre .0 .1) (st .pre .1)
+    marked-seen (a .format) (a .code) (now (a .key)) seen (now (a .seen)) always (st .pre .0 .1) (st .pre .1 .0)
 
-returns-3 : tie.Need-returns-3
-returns-3 c =
+returns-4 : tie.Need-returns-4
+returns-4 c =
     let st = c .before .before .before .before .before .before .before in
     let a = st .args in
     let seen = fieldLabels (shape (a .format)) (now (a .values)) (take (a .n) (fieldsIn (now (a .fields)))) in
     let always : AlwaysTwice (a .format) (a .code) = rw (c .before .before .enum-told2 .given .1) (vpd-always (a .code) (c .before .if1 .left)) in
-    marked-seen (a .format) (a .code) (now (a .key)) seen (now (a .seen)) always (st .pre .0 .1) (st .pre .1)
+    marked-seen (a .format) (a .code) (now (a .key)) seen (now (a .seen)) always (st .pre .0 .1) (st .pre .1 .0)
 
-returns-4 : tie.Need-returns-4
-returns-4 c =
+returns-5 : tie.Need-returns-5
+returns-5 c =
     let st = c .before .before .before .before .before .before in
     let a = st .args in
     let seen = fieldLabels (shape (a .format)) (now (a .values)) (take (a .n) (fieldsIn (now (a .fields)))) in
     let always : AlwaysTwice (a .format) (a .code) = rw (c .before .enum-told3 .given .1) (tiny-always (a .code)) in
-    marked-seen (a .format) (a .code) (now (a .key)) seen (now (a .seen)) always (st .pre .0 .1) (st .pre .1)
+    marked-seen (a .format) (a .code) (now (a .key)) seen (now (a .seen)) always (st .pre .0 .1) (st .pre .1 .0)
 
 pub is-seen-spec : {M : Type 1} → statement M
 is-seen-spec =
@@ -65,11 +72,12 @@ is-seen-spec =
     enum-told
     element-copy-out-result
     enum-told-2
-    seen-key-requires
     returns
+    seen-key-requires
+    returns-2
     element-copy-out-result-2
     enum-told-3
     element-copy-out-result-3
-    returns-2
     returns-3
-    returns-4)
+    returns-4
+    returns-5)

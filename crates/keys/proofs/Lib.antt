@@ -1,0 +1,3 @@
+pub mod Hashing
+pub mod Knowing
+pub mod Seen
