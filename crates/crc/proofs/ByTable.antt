@@ -2,12 +2,13 @@
 -- Assumes nothing.
 use mathlib.Core.Path.{_≡_, refl, sym, ap, ap₂, _∙_}
 use Prim.Native.Nat.{ℕ, zero, suc, _+_, _-_, _*_, _/_, _%_, _^_, _≤_, _<_}
-use native.Mathlib.Nat.{mod-lt, mul-mod-left, add-zero, mul-assoc, mul-comm, pow-suc, mul-le-mul-left, mul-one, sub-add-cancel}
+use native.Mathlib.Nat.{mod-lt, mul-mod-left, add-zero, zero-mul, mul-assoc, mul-comm, pow-suc, mul-le-mul-left, mul-one, sub-add-cancel}
 use native.Mathlib.Omega.{arith}
+use lib.Dec.{lit≤}
 use lib.Pow.{pow-pos, split, shl-lt, shl-shr, mod-pow-add}
 use lib.Bits.{bitXor, xor-block, xor-shifted, xor-comm, xor-zero-r}
-use Rattle.crc.specs.Crc.{times, singleBit, byteIn, remainder}
-use Rattle.crc.proofs.Xor.{Linear}
+use Rattle.crc.specs.Crc.{times, singleBit, byteIn, remainder, ahead}
+use Rattle.crc.proofs.Xor.{Linear, xor-swap}
 use Rattle.crc.proofs.SingleBit.{single-bit-linear, only-up}
 
 -- A linear step taken n times is linear.
@@ -57,3 +58,33 @@ by-table w p r b h =
     ap (times (singleBit w p) 8) (onto k r b)
     ∙ times-linear (singleBit w p) (single-bit-linear w p) 8 (r % 2 ^ k) top
     ∙ ap (λ (x : ℕ). bitXor x (times (singleBit w p) 8 top)) (times-up w p 8 (r % 2 ^ k) fits ∙ sym kept)
+
+-- Of eight bits none stay.
+pub by-table8 : (p r b : ℕ) → byteIn 8 p r b ≡ remainder 8 p (bitXor r b)
+unfolding byteIn remainder
+by-table8 p r b = ap (times (singleBit 8 p) 8) (ap (bitXor r) (mul-one b) ∙ sym (mul-one (bitXor r b)))
+
+-- A byte taken into a sum goes into one of its parts, and 0 into the other.
+byte-in-apart : (w p r s b : ℕ) → byteIn w p (bitXor r s) b ≡ bitXor (byteIn w p r b) (byteIn w p s 0)
+unfolding byteIn
+byte-in-apart w p r s b =
+    let x : ℕ = b * 2 ^ (w - 8) in
+    let none : ℕ = 0 * 2 ^ (w - 8) in
+    ap (times (singleBit w p) 8)
+    (ap (bitXor (bitXor r s)) (sym (xor-zero-r x)) ∙ xor-swap r s x 0 ∙ ap (λ (y : ℕ). bitXor (bitXor r x) (bitXor s y)) (sym (zero-mul (2 ^ (w - 8)))))
+    ∙ times-linear (singleBit w p) (single-bit-linear w p) 8 (bitXor r x) (bitXor s none)
+
+-- Two bytes taken in are the entry of the first in the table of bytes ahead, and that of the second in the table of remainders.
+pub two-by-table : (p r b c : ℕ) → byteIn 16 p (byteIn 16 p r b) c ≡ bitXor (ahead 16 p (bitXor (r / 2 ^ 8) b)) (remainder 16 p (bitXor (r % 2 ^ 8) c))
+unfolding ahead
+two-by-table p r b c =
+    let moved : ℕ = r * 2 ^ 8 % 2 ^ 16 in
+    let first : ℕ = remainder 16 p (bitXor (r / 2 ^ 8) b) in
+    let top : moved / 2 ^ 8 ≡ r % 2 ^ 8 = ap (λ (x : ℕ). x / 2 ^ 8) (stay r 8) ∙ shl-shr (r % 2 ^ 8) 8 in
+    let none : moved * 2 ^ 8 % 2 ^ 16 ≡ 0 =
+    stay moved 8 ∙ ap (λ (x : ℕ). x % 2 ^ 8 * 2 ^ 8) (stay r 8) ∙ ap (λ (x : ℕ). x * 2 ^ 8) (mul-mod-left (r % 2 ^ 8) (2 ^ 8)) in
+    ap (λ (x : ℕ). byteIn 16 p x c) (by-table 16 p r b (lit≤ tt))
+    ∙ byte-in-apart 16 p moved first c
+    ∙ ap (λ (x : ℕ). bitXor x (byteIn 16 p first 0))
+    (by-table 16 p moved c (lit≤ tt) ∙ ap₂ (λ (x y : ℕ). bitXor x (remainder 16 p (bitXor y c))) none top)
+    ∙ xor-comm (remainder 16 p (bitXor (r % 2 ^ 8) c)) (byteIn 16 p first 0)

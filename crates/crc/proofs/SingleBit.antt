@@ -2,7 +2,7 @@
 -- Assumes nothing.
 use mathlib.Core.Path.{_≡_, sym, ap, ap₂, _∙_}
 use Prim.Native.Nat.{ℕ, _*_, _/_, _%_, _^_, _<_}
-use native.Mathlib.Nat.{mod-eq-of-lt, div-eq-of-lt, zero-mul, one-mul}
+use native.Mathlib.Nat.{mod-eq-of-lt, div-eq-of-lt, zero-mul}
 use lib.Bits.{bitXor, xor-shr, xor-mod, xor-zero-r, xor-self}
 use Rattle.crc.specs.Crc.{singleBit}
 use Rattle.crc.proofs.Xor.{Bit, off, on, bit, xor-swap, Linear, double-linear}
@@ -25,14 +25,9 @@ single-bit-linear w p a b =
     ∙ xor-swap (a * 2 % 2 ^ w) (b * 2 % 2 ^ w) (a * 2 / 2 ^ w % 2 * p) (b * 2 / 2 ^ w % 2 * p)
 
 -- Where a 0 leaves at the top, the step only moves up.
-pub top-off : (w p r : ℕ) → r * 2 / 2 ^ w % 2 ≡ 0 → singleBit w p r ≡ r * 2 % 2 ^ w
+top-off : (w p r : ℕ) → r * 2 / 2 ^ w % 2 ≡ 0 → singleBit w p r ≡ r * 2 % 2 ^ w
 unfolding singleBit
 top-off w p r e = ap (λ (x : ℕ). bitXor (r * 2 % 2 ^ w) x) (ap (λ (x : ℕ). x * p) e ∙ zero-mul p) ∙ xor-zero-r (r * 2 % 2 ^ w)
-
--- Where a 1 leaves at the top, the polynomial comes off.
-pub top-on : (w p r : ℕ) → r * 2 / 2 ^ w % 2 ≡ 1 → singleBit w p r ≡ bitXor (r * 2 % 2 ^ w) p
-unfolding singleBit
-top-on w p r e = ap (λ (x : ℕ). bitXor (r * 2 % 2 ^ w) x) (ap (λ (x : ℕ). x * p) e ∙ one-mul p)
 
 -- Bits that do not reach the top only move up.
 pub only-up : (w p r : ℕ) → r * 2 < 2 ^ w → singleBit w p r ≡ r * 2

@@ -1,6 +1,7 @@
 -- The table law, which carries a table's rule, computed once, to each index.
 -- Assumes nothing.
 use mathlib.Core.Path.{_≡_, ap, _∙_, sym}
+use mathlib.Core.List.{List}
 use Prim.Native.Nat.{ℕ, zero, suc, _+_, _<_}
 use native.Mathlib.Nat.{add-zero, zero-add, add-suc, suc-add, le-of-suc-le-suc, not-suc-le-zero}
 use lib.ListN.{getD}
@@ -16,3 +17,7 @@ made-from f (suc n) i (suc k) h = made-from f n (suc i) k (le-of-suc-le-suc h) �
 -- The entry at k of a made table is the function at k.
 pub made : (f : ℕ → ℕ) (n k : ℕ) → k < n → getD (rows f n 0) k 0 ≡ f k
 made f n k h = made-from f n 0 k h ∙ ap f (zero-add k)
+
+-- The same of a table that is the made one.
+pub made-at : (f : ℕ → ℕ) (t : List ℕ) (k : ℕ) → k < 256 → t ≡ rows f 256 0 → getD t k 0 ≡ f k
+made-at f t k lt is = ap (λ (l : List ℕ). getD l k 0) is ∙ made f 256 k lt

@@ -1,5 +1,5 @@
 // The constant table of the 16-bit check: the remainder of each top byte alone (01, FBOSS v5).
-pub const REMAINDERS: [u16; 256] = [
+pub const REMAINDERS16: [u16; 256] = [
     0x0000,
     0x1021,
     0x2042,

@@ -203,14 +203,21 @@ fn frame_of(format: Format, shut: bool, s: &[u8]) -> Next
     }
 }
 
-// What stands at p, in a room that ends before `end`.
+// The room that is left from p on and ends before `end`.
+fn room_at(image: &[u8], p: usize, end: usize) -> &[u8]
+    ensures { λ r. ⌜ now r ≡ part p (end - p) (now (image .entry)) ⌝ }
+{
+    if end <= p {
+        return part_of(image, p, 0);
+    }
+    part_of(image, p, end - p)
+}
+
+// What stands at p, in a room that ends before `end`. `frame_of` is called at this one place, so that it is compiled as a part of this function.
 pub fn next_frame(format: Format, shut: bool, image: &[u8], p: usize, end: usize) -> Next
     ensures { λ r. ⌜ r ≡ next (shape format) shut (part p (end - p) (now (image .entry))) ⌝ }
 {
-    if end <= p {
-        return frame_of(format, shut, part_of(image, p, 0));
-    }
-    frame_of(format, shut, part_of(image, p, end - p))
+    frame_of(format, shut, room_at(image, p, end))
 }
 
 // Entry n of those that begin at start, in a room that ends before `end`.

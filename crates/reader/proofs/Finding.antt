@@ -25,8 +25,7 @@ use Rattle.laws.proofs.Passes.{Passing, Onward, pass-first, pass-on, pass-ends,
 use Rattle.frames.specs.declared.Spot.the-variants.{At, Nowhere}
 use Rattle.frames.specs.Spots.{spotAt}
 use Rattle.frames.proofs.Spots.{Sized, Spotted, spot-walked}
-use Rattle.reader.specs.Lies.{Lies, rawAt}
-use Rattle.reader.proofs.Lying.{framed-lies, value-at}
+use Rattle.reader.proofs.Lying.{Lies, rawAt, framed-lies, value-at}
 
 -- a pass over the entries of a room
 abbrev pub Pass : Format → List ℕ → ℕ → ℕ → ℕ → Bool → Type 0

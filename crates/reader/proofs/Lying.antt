@@ -1,25 +1,35 @@
 -- A frame that is read lies in the image, and the bytes of its value are those at its record's place.
 -- Assumes nothing.
 use Prim.Native.Nat.{ℕ, _+_, _-_, _≤_, _<_}
-use mathlib.Core.Path.{_≡_, sym}
+use mathlib.Core.Path.{_≡_, sym, _∙_}
 use mathlib.Core.List.{List}
 use mathlib.Core.Bool.{Bool}
 use native.Mathlib.Omega.{arith}
-use lib.ListN.{take, drop}
+use lib.ListN.{length, take, drop}
 use lib.Seq.{take-take}
 use Rattle.layout.specs.declared.Format.{Format}
 use Rattle.layout.specs.declared.Frame.{Frame}
+use Rattle.layout.specs.declared.Next.{Next}
 use Rattle.layout.specs.declared.Next.the-variants.{Framed}
 use Rattle.layout.specs.Bytes.{part}
 use Rattle.layout.specs.Shape.{next}
 use Rattle.layout.specs.Editions.{shape}
-use Rattle.layout.specs.Walk.{content}
+use Rattle.layout.specs.Walk.{Raw, content}
 use Rattle.laws.proofs.Frames.{rawOf, framed-raw}
 use Rattle.laws.proofs.Records.{raw-placed}
 use Rattle.laws.proofs.Formats.{laws}
 use Rattle.laws.proofs.Passes.{part-on}
 use Rattle.frames.proofs.Spots.{framed-inside}
-use Rattle.reader.specs.Lies.{Lies, rawAt}
+
+-- the frame f at p ends inside the image, and its value ends it
+pub record Lies (image : List ℕ) (p : ℕ) (f : Frame) : Type 0 where
+  pub inside : p + f .size ≤ length image
+  pub keyIn : f .key + f .klen ≤ f .val
+  pub valueLast : f .val + f .vlen ≡ f .size
+
+-- the entry of the frame f at p
+abbrev pub rawAt : List ℕ → ℕ → Frame → Raw
+rawAt image p f = record { bytes = part p (f .size) image; frame = f }
 
 -- the value's bytes stand where its record says
 pub value-at : (image : List ℕ) (p : ℕ) (f : Frame) → Lies image p f → part (p + f .val) (f .vlen) image ≡ content (rawAt image p f) .value
@@ -49,3 +59,7 @@ framed-lies g shut image p end f q =
       bound = i .2;
       is = take-take (f .size) (end - p) (drop p image) (omega (arith, i .2));
     }
+
+-- the same of what a call read
+pub read-lies : (g : Format) (shut : Bool) (image : List ℕ) (p end : ℕ) (f : Frame) {x : Next} → x ≡ next (shape g) shut (part p (end - p) image) → x ≡ Framed f → Framing image p end f
+read-lies g shut image p end f is q = framed-lies g shut image p end f (sym is ∙ q)

@@ -1,3 +1,3 @@
 pub mod Here
-pub mod Lies
+pub mod Readings
 pub mod Walk

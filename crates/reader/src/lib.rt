@@ -3,13 +3,13 @@ ghost use mathlib.Core.Path.{_≡_};
 ghost use Prim.Native.Nat.{ℕ, _+_, _-_, _≤_, _<_};
 ghost use mathlib.Core.List.{List};
 ghost use lib.ListN.{length};
-ghost use Rattle.layout.specs.Bytes.{if};
-ghost use Rattle.layout.specs.Editions.{shape, names};
+ghost use Rattle.layout.specs.Bytes.{part};
+ghost use Rattle.layout.specs.Editions.{shape};
 ghost use Rattle.layout.specs.Walk.{content};
 ghost use Rattle.layout.specs.Calls.{checkImage, keyPart, entryOf, nth, entriesOf, entryAt, valueAt, stringIn, poolString, stringAt, bytesAt, verdict};
 ghost use Rattle.laws.specs.Passes.{walked, IsDone, rawsIn};
 ghost use Rattle.reader.specs.Here.{hereAt};
-ghost use Rattle.reader.specs.Lies.{Lies, rawAt};
+ghost use Rattle.reader.specs.Readings.{readingBy};
 ghost use Rattle.reader.specs.Walk.{stepWalk};
 use accept::Taken;
 use frames::Spot;
@@ -93,27 +93,24 @@ fn key_part(format: Format, p: usize, f: Frame) -> Part
     }
 }
 
-// What the value of an entry means: plain bytes, where the edition does not name its code.
-fn reading_at(format: Format, edition: u32, image: &[u8], p: usize, f: Frame) -> Reading
-    requires { ⌜ Lies (now image) p f ⌝ }
-    ensures { λ r. ⌜ r ≡ if (names (shape format) edition (f .code)) (λ _. shape format .reading (f .code) (content (rawAt (now (image .entry)) p f) .value)) (λ _. Reading.Plain) ⌝ }
+// What the n bytes from `at` on mean as the value of an entry of this code: plain bytes, where the edition does not name it.
+fn reading_at(format: Format, edition: u32, code: u32, image: &[u8], at: usize, n: usize) -> Reading
+    ensures { λ r. ⌜ r ≡ readingBy (shape format) edition code (part at n (now (image .entry))) ⌝ }
 {
-    let code = f.code;
     if !frames::is_named(format, edition, code) {
         return Reading::Plain;
     }
-    frames::reading_of(format, code, frames::part_of(image, p + f.val, f.vlen))
+    frames::reading_of(format, code, frames::part_of(image, at, n))
 }
 
-// The record of the entry at p with this frame.
-fn entry_of(format: Format, edition: u32, image: &[u8], p: usize, f: Frame) -> Entry
-    requires { ⌜ Lies (now image) p f ⌝ }
-    ensures { λ r. ⌜ r ≡ entryOf (shape format) edition p (rawAt (now (image .entry)) p f) ⌝ }
+// The record of the entry at p with this frame and reading.
+fn entry_of(format: Format, edition: u32, p: usize, f: Frame, reading: Reading) -> Entry
+    requires { ⌜ (f .key ≤ f .val) × (p + f .val < 18446744073709551616) ⌝ }
+    ensures { λ r. ⌜ ((bs : List ℕ) → reading ≡ readingBy (shape format) edition (f .code) (content (record { bytes = bs; frame = f }) .value) → r ≡ entryOf (shape format) edition p (record { bytes = bs; frame = f })) ⌝ }
 {
     let code = f.code;
     let key = key_part(format, p, f);
     let value = part_at(p + f.val, f.vlen);
-    let reading = reading_at(format, edition, image, p, f);
     Entry {
         code: code,
         kind: frames::kind_of(format, edition, code),
@@ -138,7 +135,8 @@ pub fn entry_here(
     let x = frames::next_frame(format, shut, image, p, end);
     match x {
         Next::Framed(f) => {
-            let entry = entry_of(format, edition, image, p, f);
+            let reading = reading_at(format, edition, f.code, image, p + f.val, f.vlen);
+            let entry = entry_of(format, edition, p, f, reading);
             Here::Stands(Standing {
                 entry: entry,
                 next: p + f.size,
@@ -164,7 +162,10 @@ fn nth_entry(
 {
     let s = frames::find_frame(format, image, start, end, n);
     match s {
-        Spot::At(f, p) => Lookup::Found(entry_of(format, edition, image, p, f)),
+        Spot::At(f, p) => {
+            let reading = reading_at(format, edition, f.code, image, p + f.val, f.vlen);
+            Lookup::Found(entry_of(format, edition, p, f, reading))
+        }
         Spot::Nowhere => Lookup::Missing(refusal(13)),
     }
 }

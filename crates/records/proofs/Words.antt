@@ -3,16 +3,27 @@
 use Prim.Native.Nat.{ℕ, suc, _+_, _*_, _≤_, _<_}
 use mathlib.Core.Path.{_≡_, refl, ap, sym, _∙_}
 use mathlib.Core.List.{List, [], _∷_, _++_, append-assoc, append-nil}
+use native.Mathlib.Nat.{add-zero}
 use native.Mathlib.Numerals.{add-one}
 use native.Mathlib.Omega.{arith}
-use lib.ListN.{length, getD, take, length-append}
+use lib.ListN.{length, getD, set, take, length-append}
 use lib.Seq.{take-all, take-suc, length-take-le}
 use Rattle.output.specs.Placing.{over, copied}
-use Rattle.output.proofs.Overlay.{length-over, over-nil, over-over, copied-over, copied-not}
+use Rattle.output.proofs.Overlay.{length-over, over-nil, over-over, copied-over, copied-not, Copying, copies, copied-all}
 use Rattle.layout.specs.declared.Reading.{Reading}
 use Rattle.layout.specs.declared.Reading.the-variants.{Plain, Text, Number, Addresses, Numbered, Tests, Identified, Batched}
 use Rattle.layout.specs.Calls.{toldReading}
 use Rattle.records.specs.Words.{wordBytes, wordsBytes, readingWords}
+
+-- four bytes stored one after another
+pub stored-four : (d : List ℕ) (a w x y z : ℕ) → a + 4 ≤ length d → set (set (set (set d a w) (a + 1) x) (a + 2) y) (a + 3) z ≡ copied d a (w ∷ x ∷ y ∷ z ∷ [])
+stored-four d a w x y z le =
+    let s : List ℕ = w ∷ x ∷ y ∷ z ∷ [] in
+    let none : Copying d a s d 0 = (omega arith, sym (over-nil d a)) in
+    let one : Copying d a s (set d a w) 1 = rw add-zero at (copies d a s d 0 le none w refl (omega arith)) in
+    let two = copies d a s _ 1 le one x refl (omega arith) in
+    let three = copies d a s _ 2 le two y refl (omega arith) in
+    copied-all d a s _ 4 le (copies d a s _ 3 le three z refl (omega arith)) (omega arith)
 
 pub length-words : (ws : List ℕ) → length (wordsBytes ws) ≡ length ws * 4
 unfolding wordsBytes

@@ -1,7 +1,8 @@
 // What goes out to C: the packed answer, and an entry record in lent bytes.
 ghost use mathlib.Core.Path.{_≡_};
-ghost use Prim.Native.Nat.{ℕ, _+_, _*_, _/_};
+ghost use Prim.Native.Nat.{ℕ, _+_, _*_, _/_, _≤_};
 ghost use mathlib.Core.List.{[], _∷_};
+ghost use lib.ListN.{length};
 ghost use Rattle.layout.specs.Calls.{told, toldRefusal, toldChecked, toldLocated};
 ghost use Rattle.layout.specs.Write.{toldMade};
 ghost use Rattle.layout.specs.Bytes.{partAt};
@@ -74,18 +75,18 @@ pub fn pack_located(x: Located) -> u64
 
 // ---- a record
 
-fn word_bytes(n: u64) -> [u8; 4]
-    ensures { λ r. ⌜ r ≡ wordBytes n ⌝ }
+// A word over `out`, from `at` on.
+fn put_word(out: &mut [u8], at: usize, n: u64)
+    requires { ⌜ at + 4 ≤ length (now out) ⌝ }
+    ensures { λ r. ⌜ now (out .exit) ≡ copied (now (out .entry)) at (wordBytes n) ⌝ }
 {
-    [
-        (n % 256) as u8,
-        (n / 256 % 256) as u8,
-        (n / 65536 % 256) as u8,
-        (n / 16777216 % 256) as u8,
-    ]
+    out[at] = (n % 256) as u8;
+    out[at + 1] = (n / 256 % 256) as u8;
+    out[at + 2] = (n / 65536 % 256) as u8;
+    out[at + 3] = (n / 16777216 % 256) as u8;
 }
 
-// Words over `out`, from `at` on, where they fit.
+// Words over `out`, from `at` on, where they fit. The room is tested once, and the bytes are then stored with no further test.
 fn put_words(out: &mut [u8], at: usize, words: &[u64])
     ensures { λ r. ⌜ now (out .exit) ≡ copied (now (out .entry)) at (wordsBytes (now (words .entry))) ⌝ }
 {
@@ -97,8 +98,7 @@ fn put_words(out: &mut [u8], at: usize, words: &[u64])
     }
     let mut i = 0;
     while i < words.len() {
-        let b = word_bytes(words[i]);
-        output::copy_at(out, at + i * 4, &b);
+        put_word(out, at + i * 4, words[i]);
         i += 1;
     }
 }

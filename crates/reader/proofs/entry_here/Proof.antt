@@ -1,8 +1,9 @@
 -- `reader::entry_here` meets its contract: the entry of the frame that is read, which lies in the image.
 -- Assumes nothing.
 use borrow.Author.Needs.{needs}
-use Prim.Native.Nat.{_-_}
-use mathlib.Core.Path.{_≡_, sym, _∙_}
+use Prim.Native.Nat.{ℕ, _-_}
+use mathlib.Core.Path.{_≡_, ap, sym, _∙_}
+use mathlib.Core.List.{List}
 use native.Mathlib.Omega.{arith}
 use denote.Ref.{now}
 use Rattle.layout.specs.declared.Next.the-variants.{Framed, Ended, Broken}
@@ -10,7 +11,8 @@ use Rattle.layout.specs.Bytes.{part}
 use Rattle.layout.specs.Shape.{next}
 use Rattle.layout.specs.Editions.{shape}
 use Rattle.reader.specs.Here.{hereAt}
-use Rattle.reader.proofs.Lying.{framed-lies}
+use Rattle.reader.specs.Readings.{readingBy}
+use Rattle.reader.proofs.Lying.{read-lies, value-at}
 use Rattle.reader.proofs.entry_here.Statement.{statement}
 use Rattle.reader.proofs.entry_here.Tie as tie
 
@@ -20,23 +22,29 @@ next-frame-requires c κs = search needs
 enum-known-x : tie.Need-enum-known-x
 enum-known-x c = search needs
 
+add-reading-at : tie.Need-add-reading-at
+add-reading-at c =
+    let a = c .before .before .before .before .before .before .args in
+    let f = c .before .before .x .given .0 .0 in
+    let w = read-lies (a .format) (a .shut) (now (a .image)) (a .p) (a .end) f (c .before .before .before .before .next-frame .ensures) (c .before .before .x .given .1) in
+    omega (arith, w .lies .inside, w .lies .valueLast)
+
+reading-at-requires : tie.Need-reading-at-requires
+reading-at-requires c κs = search needs
+
 entry-of-requires : tie.Need-entry-of-requires
 entry-of-requires c κs =
-    let a = c .before .before .before .before .before .args in
-    let i = now (a .image) in
-    let f = c .before .x .given .0 .0 in
-    let e : next (shape (a .format)) (a .shut) (part (a .p) (a .end - a .p) i) ≡ Framed f = sym (c .before .before .before .next-frame .ensures) ∙ c .before .x .given .1 in
-    let w = framed-lies (a .format) (a .shut) i (a .p) (a .end) f e in
-    w .lies
-
-add-t11 : tie.Need-add-t11
-add-t11 c =
     let a = c .before .before .before .before .before .before .before .args in
-    let i = now (a .image) in
     let f = c .before .before .before .x .given .0 .0 in
-    let e : next (shape (a .format)) (a .shut) (part (a .p) (a .end - a .p) i) ≡ Framed f = sym (c .before .before .before .before .before .next-frame .ensures) ∙ c .before .before .before .x .given .1 in
-    let w = framed-lies (a .format) (a .shut) i (a .p) (a .end) f e in
-    omega (arith, w .lies .inside)
+    let w = read-lies (a .format) (a .shut) (now (a .image)) (a .p) (a .end) f (c .before .before .before .before .before .next-frame .ensures) (c .before .before .before .x .given .1) in
+    (omega (arith, w .lies .keyIn), omega (arith, w .lies .inside, w .lies .valueLast))
+
+add-t12 : tie.Need-add-t12
+add-t12 c =
+    let a = c .before .before .before .before .before .before .before .before .before .args in
+    let f = c .before .before .before .before .before .x .given .0 .0 in
+    let w = read-lies (a .format) (a .shut) (now (a .image)) (a .p) (a .end) f (c .before .before .before .before .before .before .before .next-frame .ensures) (c .before .before .before .before .before .x .given .1) in
+    omega (arith, w .bound, c .before .before .before .before .before .before .before .before .before .fits)
 
 is-last-requires : tie.Need-is-last-requires
 is-last-requires c κs = search needs
@@ -50,12 +58,13 @@ enum-told-2 c = search needs
 returns : tie.Need-returns
 unfolding hereAt
 returns c =
-    let a = c .before .before .before .before .before .before .before .before .args in
+    let a = c .before .before .before .before .before .before .before .before .before .before .args in
+    let f = c .before .before .before .before .before .before .x .given .0 .0 in
+    let w = read-lies (a .format) (a .shut) (now (a .image)) (a .p) (a .end) f (c .before .before .before .before .before .before .before .before .next-frame .ensures) (c .before .before .before .before .before .before .x .given .1) in
     let i = now (a .image) in
-    let f = c .before .before .before .before .x .given .0 .0 in
-    let e : next (shape (a .format)) (a .shut) (part (a .p) (a .end - a .p) i) ≡ Framed f = sym (c .before .before .before .before .before .before .next-frame .ensures) ∙ c .before .before .before .before .x .given .1 in
-    let w = framed-lies (a .format) (a .shut) i (a .p) (a .end) f e in
-    rw (e, w .is, c .before .before .entry-of .ensures, c .is-last .ensures)
+    let e : next (shape (a .format)) (a .shut) (part (a .p) (a .end - a .p) i) ≡ Framed f = sym (c .before .before .before .before .before .before .before .before .next-frame .ensures) ∙ c .before .before .before .before .before .before .x .given .1 in
+    let read = c .before .before .before .reading-at .ensures ∙ ap (λ (v : List ℕ). readingBy (shape (a .format)) (a .edition) (f .code) v) (value-at i (a .p) f (w .lies)) in
+    rw (e, w .is, c .before .before .entry-of .ensures (part (a .p) (f .size) i) read, c .is-last .ensures)
 
 returns-2 : tie.Need-returns-2
 unfolding hereAt
@@ -77,8 +86,10 @@ entry-here-spec =
     (tie.spec
     next-frame-requires
     enum-known-x
+    add-reading-at
+    reading-at-requires
     entry-of-requires
-    add-t11
+    add-t12
     is-last-requires
     enum-told
     enum-told-2

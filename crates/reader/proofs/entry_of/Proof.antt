@@ -1,8 +1,6 @@
 -- `reader::entry_of` meets its contract, field by field.
 -- Assumes nothing.
 use borrow.Author.Needs.{needs}
-use denote.Ref.{now}
-use Rattle.layout.specs.Bytes.{part}
 use Rattle.layout.specs.Calls.{entryOf}
 use Rattle.reader.proofs.entry_of.Statement.{statement}
 use Rattle.reader.proofs.entry_of.Tie as tie
@@ -16,25 +14,13 @@ add-part-at c = search needs
 part-at-requires : tie.Need-part-at-requires
 part-at-requires c κs = search needs
 
-reading-at-requires : tie.Need-reading-at-requires
-reading-at-requires c κs = search needs
-
 kind-of-requires : tie.Need-kind-of-requires
 kind-of-requires c κs = search needs
 
 returns : tie.Need-returns
 unfolding entryOf
-returns c =
-    let a = c .before .before .before .before .before .before .args in
-    rw (c .kind-of .ensures, c .before .reading-at .ensures, c .before .before .part-at .ensures, c .before .before .before .before .key-part .ensures (part (a .p) (a .f .size) (now (a .image))))
+returns c bs q = rw (c .kind-of .ensures, c .before .part-at .ensures, c .before .before .before .key-part .ensures bs, q)
 
 pub entry-of-spec : {M : Type 1} → statement M
 entry-of-spec =
-    tie.close
-    (tie.spec
-    key-part-requires
-    add-part-at
-    part-at-requires
-    reading-at-requires
-    kind-of-requires
-    returns)
+    tie.close (tie.spec key-part-requires add-part-at part-at-requires kind-of-requires returns)

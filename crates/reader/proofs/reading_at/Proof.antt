@@ -1,14 +1,12 @@
--- `reader::reading_at` meets its contract: the value that is read stands in the image where its frame says.
+-- `reader::reading_at` meets its contract: the value's bytes are read where the edition names the code.
 -- Assumes nothing.
 use borrow.Author.Needs.{needs}
 use mathlib.Core.Path.{_≡_, ap, sym, _∙_}
 use mathlib.Core.List.{List}
 use mathlib.Core.Bool.{true, false}
 use Prim.Native.Nat.{ℕ}
-use denote.Ref.{now}
 use borrow.Author.Tests.{not-true, not-false}
 use Rattle.layout.specs.Editions.{shape, names}
-use Rattle.reader.proofs.Lying.{value-at}
 use Rattle.reader.proofs.reading_at.Statement.{statement}
 use Rattle.reader.proofs.reading_at.Tie as tie
 
@@ -18,11 +16,8 @@ is-named-requires c κs = search needs
 returns : tie.Need-returns
 returns c =
     let a = c .before .before .before .args in
-    let q : names (shape (a .format)) (a .edition) (a .f .code) ≡ false = sym (c .before .is-named .ensures) ∙ not-true (c .before .is-named .result) (c .if1 .taken) in
+    let q : names (shape (a .format)) (a .edition) (a .code) ≡ false = sym (c .before .is-named .ensures) ∙ not-true (c .before .is-named .result) (c .if1 .taken) in
     rw q
-
-add-part-of : tie.Need-add-part-of
-add-part-of c = search needs
 
 part-of-requires : tie.Need-part-of-requires
 part-of-requires c κs = search needs
@@ -32,12 +27,11 @@ reading-of-requires c κs = search needs
 
 returns-2 : tie.Need-returns-2
 returns-2 c =
-    let a = c .before .before .before .before .before .before .args in
-    let q : names (shape (a .format)) (a .edition) (a .f .code) ≡ true = sym (c .before .before .before .before .is-named .ensures) ∙ not-false (c .before .before .before .before .is-named .result) (c .before .before .before .if1 .left) in
-    let v = c .before .part-of .ensures ∙ value-at (now (a .image)) (a .p) (a .f) (c .before .before .before .before .before .before .pre) in
-    rw q (c .reading-of .ensures ∙ ap (λ (bs : List ℕ). shape (a .format) .reading (a .f .code) bs) v)
+    let a = c .before .before .before .before .before .args in
+    let n = c .before .before .before in
+    let q : names (shape (a .format)) (a .edition) (a .code) ≡ true = sym (n .is-named .ensures) ∙ not-false (n .is-named .result) (c .before .before .if1 .left) in
+    rw q (c .reading-of .ensures ∙ ap (λ (bs : List ℕ). shape (a .format) .reading (a .code) bs) (c .before .part-of .ensures))
 
 pub reading-at-spec : {M : Type 1} → statement M
 reading-at-spec =
-    tie.close
-    (tie.spec is-named-requires returns add-part-of part-of-requires reading-of-requires returns-2)
+    tie.close (tie.spec is-named-requires returns part-of-requires reading-of-requires returns-2)

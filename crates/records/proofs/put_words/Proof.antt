@@ -1,6 +1,7 @@
 -- `records::put_words` meets its contract: a loop that writes word by word.
 -- Assumes nothing.
 use Prim.Native.Nat.{_-_}
+use native.Mathlib.Omega.{arith}
 use denote.Ref.{now}
 use lib.ListN.{length}
 use borrow.Author.Needs.{needs}
@@ -26,26 +27,20 @@ returns-2 c = not-put _ _ _ (search needs)
 loop-holds : tie.Need-loop-holds Inv-loop μ-loop
 loop-holds c = putting-starts _ _ (now (c .before .before .before .before .args .words))
 
-mul-word-bytes : tie.Need-mul-word-bytes Inv-loop μ-loop
-mul-word-bytes c = search needs
+mul-put-word : tie.Need-mul-put-word Inv-loop μ-loop
+mul-put-word c = search needs
 
-shared-slice-read-word-bytes : tie.Need-shared-slice-read-word-bytes Inv-loop μ-loop
-shared-slice-read-word-bytes c = search needs
+add-put-word : tie.Need-add-put-word Inv-loop μ-loop
+add-put-word c = search needs
 
-word-bytes-requires : tie.Need-word-bytes-requires Inv-loop μ-loop
-word-bytes-requires c κs = search needs
+mul-put-word-2 : tie.Need-mul-put-word-2 Inv-loop μ-loop
+mul-put-word-2 c = search needs
 
-mul-copy-at : tie.Need-mul-copy-at Inv-loop μ-loop
-mul-copy-at c = search needs
+shared-slice-read-put-word : tie.Need-shared-slice-read-put-word Inv-loop μ-loop
+shared-slice-read-put-word c = search needs
 
-add-copy-at : tie.Need-add-copy-at Inv-loop μ-loop
-add-copy-at c = search needs
-
-slice-aggregate-copy-at : tie.Need-slice-aggregate-copy-at Inv-loop μ-loop
-slice-aggregate-copy-at c = search needs
-
-copy-at-requires : tie.Need-copy-at-requires Inv-loop μ-loop
-copy-at-requires c κs = search needs
+put-word-requires : tie.Need-put-word-requires Inv-loop μ-loop
+put-word-requires c κs = omega (arith, putting-length _ _ _ _ _ (search needs) (c .before .before .before .loop .inv))
 
 add-i : tie.Need-add-i Inv-loop μ-loop
 add-i c = search needs
@@ -54,7 +49,7 @@ loop-less : tie.Need-loop-less Inv-loop μ-loop
 loop-less c = search needs
 
 loop-again : tie.Need-loop-again Inv-loop μ-loop
-loop-again c = puts _ _ _ _ _ (search needs) (c .before .before .before .before .before .before .before .before .loop .inv) _ (search needs) (rw (← c .before .before .before .before .before .word-bytes .ensures) (c .before .before .copy-at .ensures))
+loop-again c = puts _ _ _ _ _ (search needs) (c .before .before .before .before .before .before .loop .inv) _ (search needs) (c .before .before .put-word .ensures)
 
 same-length : tie.Need-same-length Inv-loop μ-loop
 same-length c = putting-length _ _ _ _ _ (search needs) (c .before .loop .inv)
@@ -72,13 +67,11 @@ put-words-spec =
     sub-if2
     returns-2
     loop-holds
-    mul-word-bytes
-    shared-slice-read-word-bytes
-    word-bytes-requires
-    mul-copy-at
-    add-copy-at
-    slice-aggregate-copy-at
-    copy-at-requires
+    mul-put-word
+    add-put-word
+    mul-put-word-2
+    shared-slice-read-put-word
+    put-word-requires
     add-i
     loop-less
     loop-again
