@@ -74,8 +74,8 @@ byte-in-apart w p r s b =
     (ap (bitXor (bitXor r s)) (sym (xor-zero-r x)) ∙ xor-swap r s x 0 ∙ ap (λ (y : ℕ). bitXor (bitXor r x) (bitXor s y)) (sym (zero-mul (2 ^ (w - 8)))))
     ∙ times-linear (singleBit w p) (single-bit-linear w p) 8 (bitXor r x) (bitXor s none)
 
--- Two bytes taken in are the entry of the first in the table of bytes ahead, and that of the second in the table of remainders.
-pub two-by-table : (p r b c : ℕ) → byteIn 16 p (byteIn 16 p r b) c ≡ bitXor (ahead 16 p (bitXor (r / 2 ^ 8) b)) (remainder 16 p (bitXor (r % 2 ^ 8) c))
+-- Two bytes taken in, by an entry for each of them.
+two-by-table : (p r b c : ℕ) → byteIn 16 p (byteIn 16 p r b) c ≡ bitXor (ahead 16 p 1 (bitXor (r / 2 ^ 8) b)) (remainder 16 p (bitXor (r % 2 ^ 8) c))
 unfolding ahead
 two-by-table p r b c =
     let moved : ℕ = r * 2 ^ 8 % 2 ^ 16 in
@@ -88,3 +88,22 @@ two-by-table p r b c =
     ∙ ap (λ (x : ℕ). bitXor x (byteIn 16 p first 0))
     (by-table 16 p moved c (lit≤ tt) ∙ ap₂ (λ (x y : ℕ). bitXor x (remainder 16 p (bitXor y c))) none top)
     ∙ xor-comm (remainder 16 p (bitXor (r % 2 ^ 8) c)) (byteIn 16 p first 0)
+
+-- Two bytes 0 taken into a sum go into each of its parts.
+two-apart : (w p r s : ℕ) → byteIn w p (byteIn w p (bitXor r s) 0) 0 ≡ bitXor (byteIn w p (byteIn w p r 0) 0) (byteIn w p (byteIn w p s 0) 0)
+two-apart w p r s =
+    ap (λ (x : ℕ). byteIn w p x 0) (byte-in-apart w p r s 0) ∙ byte-in-apart w p (byteIn w p r 0) (byteIn w p s 0) 0
+
+-- Four bytes taken in, by an entry for each of them: of the last two, and of the first two with two bytes after them.
+pub four-by-table : (p r b c d e : ℕ) →
+    byteIn 16 p (byteIn 16 p (byteIn 16 p (byteIn 16 p r b) c) d) e
+    ≡ bitXor (bitXor (ahead 16 p 1 (bitXor (0 / 2 ^ 8) d)) (remainder 16 p (bitXor (0 % 2 ^ 8) e)))
+    (bitXor (ahead 16 p 3 (bitXor (r / 2 ^ 8) b)) (ahead 16 p 2 (bitXor (r % 2 ^ 8) c)))
+unfolding ahead
+four-by-table p r b c d e =
+    let s : ℕ = byteIn 16 p (byteIn 16 p r b) c in
+    ap (λ (x : ℕ). byteIn 16 p x e) (byte-in-apart 16 p 0 s d)
+    ∙ byte-in-apart 16 p (byteIn 16 p 0 d) (byteIn 16 p s 0) e
+    ∙ ap₂ bitXor (two-by-table p 0 d e)
+    (ap (λ (x : ℕ). byteIn 16 p (byteIn 16 p x 0) 0) (two-by-table p r b c)
+    ∙ two-apart 16 p (ahead 16 p 1 (bitXor (r / 2 ^ 8) b)) (remainder 16 p (bitXor (r % 2 ^ 8) c)))

@@ -1,4 +1,4 @@
--- A loop that takes in a slice's bytes: its invariant, a turn of one byte or of two, and the end.
+-- A loop that takes in a slice's bytes: its invariant, a turn of one byte or of four, and the end.
 -- Assumes nothing.
 use mathlib.Core.Path.{_≡_, refl, sym, ap, _∙_}
 use mathlib.Core.List.{List}
@@ -27,10 +27,14 @@ module _ (w p whole : ℕ) (bs : List ℕ) (r i : ℕ) (inv : Running w p whole 
       let e : i ≡ length bs = omega arith in
       sym (ap (checkOf w p r) (ap (λ (n : ℕ). drop n bs) e ∙ drop-length bs)) ∙ inv .1
 
--- Two more bytes taken in.
-pub two-turns : (w p whole : ℕ) (bs : List ℕ) (r i : ℕ) → Running w p whole bs r i →
-    (s : ℕ) → i + 1 < length bs → s ≡ byteIn w p (byteIn w p r (getD bs i 0)) (getD bs (i + 1) 0) → Running w p whole bs s (i + 2)
-two-turns w p whole bs r i inv s lt e =
-    let one = turn w p whole bs r i inv (byteIn w p r (getD bs i 0)) (omega arith) refl in
-    let at : i + 1 + 1 ≡ i + 2 = omega arith in
-    rw at at (turn w p whole bs (byteIn w p r (getD bs i 0)) (i + 1) one s lt e)
+-- Four more bytes taken in.
+pub four-turns : (w p whole : ℕ) (bs : List ℕ) (r i : ℕ) → Running w p whole bs r i → (s : ℕ) → i + 3 < length bs →
+    s ≡ byteIn w p (byteIn w p (byteIn w p (byteIn w p r (getD bs i 0)) (getD bs (i + 1) 0)) (getD bs (i + 2) 0)) (getD bs (i + 3) 0) → Running w p whole bs s (i + 4)
+four-turns w p whole bs r i inv s lt e =
+    let two : i + 1 + 1 ≡ i + 2 = omega arith in
+    let three : i + 2 + 1 ≡ i + 3 = omega arith in
+    let four : i + 3 + 1 ≡ i + 4 = omega arith in
+    let a = turn w p whole bs r i inv _ (omega arith) refl in
+    let b = rw two at (turn w p whole bs _ (i + 1) a _ (omega arith) refl) in
+    let c = rw three at (turn w p whole bs _ (i + 2) b _ (omega arith) refl) in
+    rw four at (turn w p whole bs _ (i + 3) c s lt e)

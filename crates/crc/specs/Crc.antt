@@ -21,9 +21,9 @@ byteIn w p r b = times (singleBit w p) 8 (bitXor r (b * 2 ^ (w - 8)))
 unfoldable pub remainder : (w p i : ℕ) → ℕ
 remainder w p i = times (singleBit w p) 8 (i * 2 ^ (w - 8))
 
--- The remainder of the top byte i with a byte 0 after it, an entry of the table for the first of two bytes that are taken in at once.
-unfoldable pub ahead : (w p i : ℕ) → ℕ
-ahead w p i = byteIn w p (remainder w p i) 0
+-- The remainder of the top byte i with n bytes 0 after it, an entry of the table for a byte that is taken in with n others after it.
+unfoldable pub ahead : (w p n i : ℕ) → ℕ
+ahead w p n i = times (λ (r : ℕ). byteIn w p r 0) n (remainder w p i)
 
 -- The check of a list of bytes: each is taken in, one after the other, from the start s (01, FBOSS v5).
 unfoldable pub checkOf : (w p s : ℕ) → List ℕ → ℕ

@@ -1,63 +1,101 @@
--- `crc::check16` meets its contract: it takes in two bytes in each turn and the last one that is left, over the tables that antt computes to be the made ones.
+-- `crc::check16` meets its contract: it takes in four bytes in each turn and then those that are left, over the tables that antt computes to be the made ones.
 -- Assumes nothing.
-use mathlib.Core.Path.{refl}
-use Prim.Native.Nat.{_-_}
+use mathlib.Core.Path.{refl, sym, ap₂, _∙_}
+use Prim.Native.Nat.{_+_, _-_}
 use borrow.Author.Needs.{needs}
-use lib.ListN.{length}
+use denote.Ref.{now}
+use lib.Bits.{bitXor}
+use lib.ListN.{length, getD}
 use Rattle.crc.specs.Crc.{singleBit, byteIn, remainder, ahead, polynomial16, check16Of}
 use Rattle.crc.specs.Table.{rows}
-use Rattle.crc.proofs.Loop.{Running, turn, two-turns, done}
+use Rattle.crc.proofs.ByTable.{four-by-table}
+use Rattle.crc.proofs.Loop.{Running, turn, four-turns, done}
 use Rattle.crc.proofs.check16.Statement.{statement}
 use Rattle.crc.proofs.check16.Tie as tie
 
 abbrev Inv-loop : tie.InvT-loop
-Inv-loop bytes aheads remainders r₀ i₀ r i = Running 16 polynomial16 (check16Of bytes) bytes r i
+Inv-loop bytes third second first remainders r₀ i₀ r i = Running 16 polynomial16 (check16Of bytes) bytes r i
 
 abbrev μ-loop : tie.MeasureT-loop
-μ-loop bytes aheads remainders r₀ i₀ r i = length bytes - i
+μ-loop bytes third second first remainders r₀ i₀ r i = length bytes - i
 
-loop-holds : tie.Need-loop-holds Inv-loop μ-loop
+abbrev Inv-loop2 : tie.InvT-loop2
+Inv-loop2 bytes remainders r₀ i₀ r i = Running 16 polynomial16 (check16Of bytes) bytes r i
+
+abbrev μ-loop2 : tie.MeasureT-loop2
+μ-loop2 bytes remainders r₀ i₀ r i = length bytes - i
+
+loop-holds : tie.Need-loop-holds Inv-loop μ-loop Inv-loop2 μ-loop2
 unfolding check16Of
 loop-holds c = search needs
 
-add-loop : tie.Need-add-loop Inv-loop μ-loop
+add-loop : tie.Need-add-loop Inv-loop μ-loop Inv-loop2 μ-loop2
 add-loop c = search needs
 
-shared-slice-read-two-in16 : tie.Need-shared-slice-read-two-in16 Inv-loop μ-loop
-shared-slice-read-two-in16 c = search needs
+shared-slice-read-mixed16 : tie.Need-shared-slice-read-mixed16 Inv-loop μ-loop Inv-loop2 μ-loop2
+shared-slice-read-mixed16 c = search needs
 
-add-two-in16 : tie.Need-add-two-in16 Inv-loop μ-loop
-add-two-in16 c = search needs
+add-mixed16 : tie.Need-add-mixed16 Inv-loop μ-loop Inv-loop2 μ-loop2
+add-mixed16 c = search needs
 
-shared-slice-read-two-in16-2 : tie.Need-shared-slice-read-two-in16-2 Inv-loop μ-loop
-shared-slice-read-two-in16-2 c = search needs
+shared-slice-read-mixed16-2 : tie.Need-shared-slice-read-mixed16-2 Inv-loop μ-loop Inv-loop2 μ-loop2
+shared-slice-read-mixed16-2 c = search needs
 
-two-in16-requires : tie.Need-two-in16-requires Inv-loop μ-loop
-unfolding rows ahead byteIn remainder singleBit
-two-in16-requires c κs = (refl, refl)
+mixed16-requires : tie.Need-mixed16-requires Inv-loop μ-loop Inv-loop2 μ-loop2
+mixed16-requires c κs = search needs
 
-add-i : tie.Need-add-i Inv-loop μ-loop
+add-mixed16-2 : tie.Need-add-mixed16-2 Inv-loop μ-loop Inv-loop2 μ-loop2
+add-mixed16-2 c = search needs
+
+shared-slice-read-mixed16-3 : tie.Need-shared-slice-read-mixed16-3 Inv-loop μ-loop Inv-loop2 μ-loop2
+shared-slice-read-mixed16-3 c = search needs
+
+add-mixed16-3 : tie.Need-add-mixed16-3 Inv-loop μ-loop Inv-loop2 μ-loop2
+add-mixed16-3 c = search needs
+
+shared-slice-read-mixed16-4 : tie.Need-shared-slice-read-mixed16-4 Inv-loop μ-loop Inv-loop2 μ-loop2
+shared-slice-read-mixed16-4 c = search needs
+
+mixed16-requires-2 : tie.Need-mixed16-requires-2 Inv-loop μ-loop Inv-loop2 μ-loop2
+mixed16-requires-2 c κs = search needs
+
+add-i : tie.Need-add-i Inv-loop μ-loop Inv-loop2 μ-loop2
 add-i c = search needs
 
-loop-less : tie.Need-loop-less Inv-loop μ-loop
+loop-less : tie.Need-loop-less Inv-loop μ-loop Inv-loop2 μ-loop2
 loop-less c = search needs
 
-loop-again : tie.Need-loop-again Inv-loop μ-loop
-loop-again c = two-turns 16 polynomial16 _ _ _ _ (c .before .before .before .before .before .before .loop .inv) _ (search needs) (c .two-in16 .ensures)
+loop-again : tie.Need-loop-again Inv-loop μ-loop Inv-loop2 μ-loop2
+unfolding rows ahead byteIn remainder singleBit
+loop-again c =
+    let front = c .before .before .before .before .before .mixed16 .ensures (ahead 16 polynomial16 3) (ahead 16 polynomial16 2) refl refl in
+    let back = c .mixed162 .ensures (ahead 16 polynomial16 1) (remainder 16 polynomial16) refl refl in
+    let at = c .before .before .before .before .before .before .before .before .before .before .before .loop in
+    let bs = now (c .before .before .before .before .before .before .before .before .before .before .before .before .before .args .bytes) in
+    four-turns 16 polynomial16 _ _ _ _ (at .inv) _ (search needs)
+    (ap₂ bitXor back front ∙ sym (four-by-table polynomial16 (at .r) (getD bs (at .i) 0) (getD bs (at .i + 1) 0) (getD bs (at .i + 2) 0) (getD bs (at .i + 3) 0)))
 
-shared-slice-read-byte-in16 : tie.Need-shared-slice-read-byte-in16 Inv-loop μ-loop
+loop2-holds : tie.Need-loop2-holds Inv-loop μ-loop Inv-loop2 μ-loop2
+loop2-holds c = c .before .loop .inv
+
+shared-slice-read-byte-in16 : tie.Need-shared-slice-read-byte-in16 Inv-loop μ-loop Inv-loop2 μ-loop2
 shared-slice-read-byte-in16 c = search needs
 
-byte-in16-requires : tie.Need-byte-in16-requires Inv-loop μ-loop
+byte-in16-requires : tie.Need-byte-in16-requires Inv-loop μ-loop Inv-loop2 μ-loop2
 unfolding rows remainder singleBit
 byte-in16-requires c κs = refl
 
-returns : tie.Need-returns Inv-loop μ-loop
-returns c =
-    done 16 polynomial16 _ _ _ _ (turn 16 polynomial16 _ _ _ _ (c .before .before .before .before .before .loop .inv) _ (search needs) (c .byte-in16 .ensures)) (search needs)
+add-i-2 : tie.Need-add-i-2 Inv-loop μ-loop Inv-loop2 μ-loop2
+add-i-2 c = search needs
 
-returns-2 : tie.Need-returns-2 Inv-loop μ-loop
-returns-2 c = done 16 polynomial16 _ _ _ _ (c .before .before .loop .inv) (search needs)
+loop2-less : tie.Need-loop2-less Inv-loop μ-loop Inv-loop2 μ-loop2
+loop2-less c = search needs
+
+loop2-again : tie.Need-loop2-again Inv-loop μ-loop Inv-loop2 μ-loop2
+loop2-again c = turn 16 polynomial16 _ _ _ _ (c .before .before .before .before .loop2 .inv) _ (search needs) (c .byte-in16 .ensures)
+
+returns : tie.Need-returns Inv-loop μ-loop Inv-loop2 μ-loop2
+returns c = done 16 polynomial16 _ _ _ _ (c .before .loop2 .inv) (search needs)
 
 pub check16-spec : {M : Type 1} → statement M
 check16-spec =
@@ -65,16 +103,26 @@ check16-spec =
     (tie.spec
     Inv-loop
     μ-loop
+    Inv-loop2
+    μ-loop2
     loop-holds
     add-loop
-    shared-slice-read-two-in16
-    add-two-in16
-    shared-slice-read-two-in16-2
-    two-in16-requires
+    shared-slice-read-mixed16
+    add-mixed16
+    shared-slice-read-mixed16-2
+    mixed16-requires
+    add-mixed16-2
+    shared-slice-read-mixed16-3
+    add-mixed16-3
+    shared-slice-read-mixed16-4
+    mixed16-requires-2
     add-i
     loop-less
     loop-again
+    loop2-holds
     shared-slice-read-byte-in16
     byte-in16-requires
-    returns
-    returns-2)
+    add-i-2
+    loop2-less
+    loop2-again
+    returns)
