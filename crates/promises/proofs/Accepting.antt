@@ -9,7 +9,6 @@ use lib.ListN.{length, drop}
 use borrow.Author.Tests.{le-leb}
 use Rattle.layout.specs.declared.Format.{Format}
 use Rattle.layout.specs.declared.Entry.{Entry}
-use Rattle.layout.specs.declared.Checked.the-variants.{Accepted}
 use Rattle.layout.specs.Shape.{Shape}
 use Rattle.layout.specs.Editions.{shape}
 use Rattle.layout.specs.Walk.{Raw, Content, content, flat}
@@ -20,16 +19,18 @@ use Rattle.laws.proofs.Images.{Accepts}
 use Rattle.laws.proofs.Records.{records-said, entries-count}
 use Rattle.laws.proofs.Formats.{laws}
 use Rattle.laws.proofs.Calls.{Reading}
-use Rattle.promises.specs.Words.{Lists, Reads}
+use Rattle.promises.specs.Words.{Counts, Lists, Reads, tellsCheck}
 
 module _ (f e : ℕ) (image : List ℕ) (g : Format) (start : ℕ) (rs : List Raw) (r : Reading f e image g start rs) where
-  pub accepts : checkImage f e image ≡ Accepted (length rs)
+  pub accepts : Counts (tellsCheck f e image) (length rs)
   unfolding checkImage
   accepts = rw (r .read)
 
   pub lists : Lists f e image (entriesOf (shape g) e start rs)
   unfolding listEntries
-  lists records le = rw (r .read, le-leb (length (entriesOf (shape g) e start rs)) (length records) le)
+  lists records le =
+      let fits = le-leb (length (entriesOf (shape g) e start rs)) (length records) le in
+      (rw (r .read, fits), rw (r .read, fits))
 
   pub records-say : map (said image) (entriesOf (shape g) e start rs) ≡ map content rs
   records-say =

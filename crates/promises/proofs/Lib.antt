@@ -1,10 +1,2 @@
 pub mod Accepting
-pub mod Older
-pub mod Output
-pub mod PublishedRules
-pub mod Listing
-pub mod RoundTrip
-pub mod OlderReads
-pub mod OlderEdits
-pub mod Edits
-pub mod EditRule
+pub mod Telling

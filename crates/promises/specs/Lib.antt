@@ -1,7 +1,16 @@
 pub mod Words
+pub mod Names
+pub mod Numbers
+pub mod Unchanged
 pub mod PublishedRules
 pub mod Listing
+pub mod Kinds
+pub mod Lookups
+pub mod Strings
+pub mod FramesAlike
 pub mod RoundTrip
+pub mod Written
+pub mod Writing
 pub mod OlderReads
 pub mod OlderEdits
 pub mod EditRule

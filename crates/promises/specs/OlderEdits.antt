@@ -4,14 +4,11 @@ use Prim.Native.Nat.{ℕ, _≤_}
 use mathlib.Core.Path.{_≡_}
 use mathlib.Core.List.{List}
 use lib.ListN.{take}
-use Rattle.layout.specs.declared.Checked.the-variants.{Accepted}
-use Rattle.layout.specs.declared.Made.the-variants.{Wrote}
 use Rattle.layout.specs.Walk.{Content}
-use Rattle.layout.specs.Calls.{checkImage}
 use Rattle.layout.specs.Write.{Outcome}
 use Rattle.layout.specs.Edit.{editEntry}
 use Rattle.laws.specs.Contents.{replaced}
-use Rattle.promises.specs.Words.{Reads}
+use Rattle.promises.specs.Words.{Counts, Reads, tellsCheck, tellsEdit}
 
 -- edition n read `former` before the edit, and reads it with value i replaced after it: in the whole output, and in its part up to the length given
 pub record Kept (f n : ℕ) (image : List ℕ) (i : ℕ) (v output : List ℕ) (m : ℕ) : Type 0 where
@@ -23,5 +20,5 @@ pub record Kept (f n : ℕ) (image : List ℕ) (i : ℕ) (v output : List ℕ) (
 -- o and n are known editions, o no newer than n: that they are known follows from what they did not refuse
 abbrev pub OlderEdits : Type 0
 OlderEdits =
-    (f o n : ℕ) (image : List ℕ) (count i : ℕ) (v out : List ℕ) (m : ℕ) → o ≤ n → checkImage f n image ≡ Accepted count →
-    editEntry f o image i v out .answer ≡ Wrote m → Kept f n image i v (editEntry f o image i v out .memory) m
+    (f o n : ℕ) (image : List ℕ) (count i : ℕ) (v out : List ℕ) (m : ℕ) → o ≤ n → Counts (tellsCheck f n image) count →
+    Counts (tellsEdit f o image i v out) m → Kept f n image i v (editEntry f o image i v out .memory) m

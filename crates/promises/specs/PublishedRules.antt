@@ -4,22 +4,18 @@ use Prim.Native.Nat.{ℕ}
 use mathlib.Core.Path.{_≡_}
 use mathlib.Core.List.{List}
 use Rattle.layout.specs.declared.Format.{Format}
-use Rattle.layout.specs.declared.Chosen.the-variants.{Known}
-use Rattle.layout.specs.declared.Checked.the-variants.{Accepted}
-use Rattle.layout.specs.Editions.{chosen}
 use Rattle.layout.specs.Walk.{Content}
-use Rattle.layout.specs.Calls.{checkImage}
 use Rattle.laws.specs.Grammar.{Published}
-use Rattle.promises.specs.Words.{Reads}
+use Rattle.promises.specs.Words.{Serves, Counts, Reads, tellsCheck}
 
 -- what an accepted image is: an image of a known format's grammar, whose list says what the grammar says
 pub record OfGrammar (f e : ℕ) (image : List ℕ) : Type 0 where
   pub format : Format
-  pub known : chosen f e ≡ Known format
+  pub serves : Serves f e format
   pub contents : List Content
   pub published : Published format e image contents
   pub reads : Reads f e image contents
 
 pub record PublishedRules : Type 0 where
-  pub accepted-is : (f e : ℕ) (image : List ℕ) (n : ℕ) → checkImage f e image ≡ Accepted n → OfGrammar f e image
-  pub is-accepted : (f e : ℕ) (format : Format) (image : List ℕ) (cs : List Content) → chosen f e ≡ Known format → Published format e image cs → Reads f e image cs
+  pub accepted-is : (f e : ℕ) (image : List ℕ) (n : ℕ) → Counts (tellsCheck f e image) n → OfGrammar f e image
+  pub is-accepted : (f e : ℕ) (format : Format) (image : List ℕ) (cs : List Content) → Serves f e format → Published format e image cs → Reads f e image cs

@@ -6,11 +6,10 @@ use mathlib.Core.List.{List, [], map}
 use lib.ListN.{take}
 use lib.Dec.{eqb}
 use Rattle.layout.specs.declared.Field.{Field}
-use Rattle.layout.specs.declared.Made.the-variants.{Wrote}
 use Rattle.layout.specs.Bytes.{if, part}
 use Rattle.layout.specs.Walk.{Content}
 use Rattle.layout.specs.Write.{Outcome, writeImage}
-use Rattle.promises.specs.Words.{Reads}
+use Rattle.promises.specs.Words.{Counts, Reads, tellsWrite}
 
 -- what a field of a write says: its code, its part of the lent values, and a key in VPD alone
 abbrev pub fieldSays : ℕ → List ℕ → Field → Content
@@ -24,6 +23,6 @@ fieldSays f values x =
 -- of the whole output, and of its part up to the length given
 abbrev pub RoundTrip : Type 0
 RoundTrip =
-    (f e : ℕ) (fields : List Field) (values out : List ℕ) (n : ℕ) → writeImage f e fields values out .answer ≡ Wrote n →
+    (f e : ℕ) (fields : List Field) (values out : List ℕ) (n : ℕ) → Counts (tellsWrite f e fields values out) n →
     Reads f e (writeImage f e fields values out .memory) (map (fieldSays f values) fields)
     × Reads f e (take n (writeImage f e fields values out .memory)) (map (fieldSays f values) fields)

@@ -1,24 +1,88 @@
--- Words that the promises share.
+-- Words that the promises share. They speak of an answer by what it tells (layout/specs/Calls.antt): a number, a place, a count, a part, and the entries given.
 -- Assumes nothing.
-use Prim.Native.Nat.{ℕ, _≤_}
+use Prim.Native.Nat.{ℕ, zero, suc, _≤_}
 use mathlib.Core.Path.{_≡_}
-use mathlib.Core.List.{List, _++_, map}
+use mathlib.Core.List.{List, [], _∷_, _++_, map}
 use lib.ListN.{length, drop}
+use Rattle.layout.specs.declared.Format.{Format}
+use Rattle.layout.specs.declared.Format.the-variants.{Fboss, Vpd, Tiny}
 use Rattle.layout.specs.declared.Entry.{Entry}
-use Rattle.layout.specs.declared.Checked.the-variants.{Accepted}
+use Rattle.layout.specs.declared.Field.{Field}
+use Rattle.layout.specs.Bytes.{partAt, refusal}
 use Rattle.layout.specs.Walk.{Content}
-use Rattle.layout.specs.Calls.{checkImage, Listed, listEntries}
+use Rattle.layout.specs.Calls.{Told, told, toldRefusal, toldChecked, toldLookup, toldLocated, checkImage, Listed, listEntries, entryAt, valueAt, stringAt}
+use Rattle.layout.specs.Write.{Outcome, writeImage, toldMade}
+use Rattle.layout.specs.Edit.{editEntry}
 use Rattle.laws.specs.Contents.{said}
+
+-- ---- formats and editions
+
+-- document 01's number of a format
+pub data Numbered : ℕ → Format → Type 0 where
+  fboss : Numbered 1 Fboss
+  vpd : Numbered 2 Vpd
+  tiny : Numbered 3 Tiny
+
+-- 01's term "edition": the known ones are 1 and 2
+abbrev pub KnownEdition : ℕ → Type 0
+KnownEdition e = (1 ≤ e) × (e ≤ 2)
+
+-- a call's format number stands for this format, and its edition is known
+pub record Serves (f e : ℕ) (format : Format) : Type 0 where
+  pub number : Numbered f format
+  pub edition : KnownEdition e
+
+-- ---- what the calls tell
+
+abbrev pub tellsCheck : ℕ → ℕ → List ℕ → Told
+tellsCheck f e image = toldChecked (checkImage f e image)
+
+abbrev pub tellsList : ℕ → ℕ → List ℕ → List Entry → Told
+tellsList f e image records = toldChecked (listEntries f e image records .answer)
+
+abbrev pub tellsEntry : ℕ → ℕ → List ℕ → ℕ → Told
+tellsEntry f e image n = toldLookup (entryAt f e image n)
+
+abbrev pub tellsValue : ℕ → ℕ → List ℕ → ℕ → Told
+tellsValue f e image n = toldLocated (valueAt f e image n)
+
+abbrev pub tellsString : ℕ → ℕ → List ℕ → ℕ → Told
+tellsString f e image number = toldLocated (stringAt f e image number)
+
+abbrev pub tellsWrite : ℕ → ℕ → List Field → List ℕ → List ℕ → Told
+tellsWrite f e fields values out = toldMade (writeImage f e fields values out .answer)
+
+abbrev pub tellsEdit : ℕ → ℕ → List ℕ → ℕ → List ℕ → List ℕ → Told
+tellsEdit f e image i v out = toldMade (editEntry f e image i v out .answer)
+
+-- nothing is refused, and what is told is a count alone: of entries, or of the bytes of an image that was made
+abbrev pub Counts : Told → ℕ → Type 0
+Counts t n = t ≡ told n (partAt 0 0) []
+
+-- the call is refused, with this number and this place
+abbrev pub Refuses : Told → ℕ → ℕ → Type 0
+Refuses t n p = t ≡ toldRefusal (refusal n p)
+
+-- the call is refused, whatever the number
+abbrev pub IsRefused : Told → Type 0
+IsRefused t = t .number ≡ 0 → ⊥
+
+-- ---- lists
+
+-- the item of this number, from 0
+pub data Item {A : Type 0} : List A → ℕ → A → Type 0 where
+  here : {x : A} {xs : List A} → Item (x ∷ xs) zero x
+  there : {x y : A} {xs : List A} {n : ℕ} → Item xs n y → Item (x ∷ xs) (suc n) y
 
 -- with room enough, the list call gives just these records, and leaves those beyond as they were
 abbrev pub Lists : ℕ → ℕ → List ℕ → List Entry → Type 0
 Lists f e image entries =
     (records : List Entry) → length entries ≤ length records →
-    listEntries f e image records ≡ record { answer = Accepted (length entries); records = entries ++ drop (length entries) records }
+    Counts (tellsList f e image records) (length entries) × (listEntries f e image records .records ≡ entries ++ drop (length entries) records)
 
 -- edition e accepts the image, and its list says these codes, keys and values, in order
 pub record Reads (f e : ℕ) (image : List ℕ) (cs : List Content) : Type 0 where
   pub entries : List Entry
-  pub accepted : checkImage f e image ≡ Accepted (length entries)
+  pub accepted : Counts (tellsCheck f e image) (length entries)
   pub listed : Lists f e image entries
   pub says : map (said image) entries ≡ cs

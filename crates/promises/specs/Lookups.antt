@@ -1,0 +1,76 @@
+-- Entry, value and walk belong to the list: entry n is the list's record n, its value is that record's, and a walk gives the records one by one.
+-- Assumes nothing.
+use Prim.Native.Nat.{ℕ, zero, suc, _+_, _-_, _≤_}
+use mathlib.Core.Path.{_≡_}
+use mathlib.Core.List.{List, [], _∷_, _++_, map}
+use lib.ListN.{length, take, replicate}
+use Rattle.layout.specs.declared.Entry.{Entry}
+use Rattle.layout.specs.declared.Refusal.{Refusal}
+use Rattle.layout.specs.Bytes.{partAt, refusal}
+use Rattle.layout.specs.Walk.{Content}
+use Rattle.layout.specs.Read.{limit}
+use Rattle.layout.specs.Calls.{Told, told, toldRefusal, toldLookup, bytesAt, verdict, valueAt, Step, stepFrom}
+use Rattle.laws.specs.Contents.{said}
+use Rattle.promises.specs.Words.{Counts, Refuses, IsRefused, Item, Lists, tellsCheck, tellsList, tellsEntry, tellsValue, tellsEdit}
+
+-- ---- a walk, step by step over one image
+
+-- what k steps tell, of a walk whose entry number is n
+unfoldable pub toldBySteps : ℕ → ℕ → List ℕ → ℕ → ℕ → List Told
+toldBySteps f e image n zero = []
+toldBySteps f e image n (suc k) = toldLookup (stepFrom f e n image .answer) ∷ toldBySteps f e image (stepFrom f e n image .next) k
+
+-- the entry number of the walk that the last of k steps hands back
+unfoldable pub numberAfter : ℕ → ℕ → List ℕ → ℕ → ℕ → ℕ
+numberAfter f e image n zero = n
+numberAfter f e image n (suc k) = numberAfter f e image (stepFrom f e n image .next) k
+
+-- ---- an accepted image
+
+-- what one record given tells
+abbrev pub given : Entry → Told
+given x = told 1 (partAt 0 0) (x ∷ [])
+
+-- the calls for one entry, beside the list of an image with n entries
+pub record OneByOne (f e : ℕ) (image : List ℕ) (n : ℕ) : Type 0 where
+  pub entries : List Entry
+  pub counted : length entries ≡ n
+  pub listed : Lists f e image entries
+  -- entry i is the list's record i, and there is none exactly from n on
+  pub entry : (i : ℕ) (x : Entry) → Item entries i x → tellsEntry f e image i ≡ given x
+  pub noEntry : (i : ℕ) → n ≤ i → Refuses (tellsEntry f e image i) 13 0
+  -- value i is that record's value
+  pub value : (i : ℕ) (x : Entry) → Item entries i x → tellsValue f e image i ≡ told (x .value .len) (x .value) []
+  pub valueBytes : (i : ℕ) (x : Entry) → Item entries i x → bytesAt image (valueAt f e image i) ≡ said image x .value
+  pub noValue : (i : ℕ) → n ≤ i → Refuses (tellsValue f e image i) 13 0
+  -- any number of steps from 0 gives the list's records in order and then 13, where the walk stays
+  pub walked : (k : ℕ) → toldBySteps f e image 0 k ≡ take k (map given entries) ++ replicate (k - n) (toldRefusal (refusal 13 0))
+  pub moves : (k : ℕ) → k ≤ n → numberAfter f e image 0 k ≡ k
+  pub stays : (k : ℕ) → n ≤ k → numberAfter f e image 0 k ≡ n
+
+-- ---- any image
+
+-- every call on an image that the check refuses is refused alike; an edit, where its output is not too long
+pub record AsChecked (f e : ℕ) (image : List ℕ) : Type 0 where
+  pub listed : (records : List Entry) → tellsList f e image records ≡ tellsCheck f e image
+  pub entry : (n : ℕ) → tellsEntry f e image n ≡ tellsCheck f e image
+  pub value : (n : ℕ) → tellsValue f e image n ≡ tellsCheck f e image
+  pub edited : (i : ℕ) (v out : List ℕ) → length out ≤ limit → tellsEdit f e image i v out ≡ tellsCheck f e image
+
+-- a step answers as entry n on the image lent to it, and moves the walk on by one exactly where it is not refused
+pub record StepRule (f e n : ℕ) (image : List ℕ) : Type 0 where
+  pub answers : toldLookup (stepFrom f e n image .answer) ≡ tellsEntry f e image n
+  pub onward : tellsEntry f e image n .number ≡ 0 → stepFrom f e n image .next ≡ n + 1
+  pub unmoved : IsRefused (tellsEntry f e image n) → stepFrom f e n image .next ≡ n
+
+-- the part that a call gives alone, and number and place by another
+pub record Twin (f e : ℕ) (image : List ℕ) (n : ℕ) : Type 0 where
+  pub number : verdict (valueAt f e image n) .number ≡ tellsValue f e image n .number
+  pub place : verdict (valueAt f e image n) .place .0 ≡ tellsValue f e image n .place
+  pub empty : IsRefused (tellsValue f e image n) → bytesAt image (valueAt f e image n) ≡ []
+
+pub record Lookups : Type 0 where
+  pub accepted : (f e : ℕ) (image : List ℕ) (n : ℕ) → Counts (tellsCheck f e image) n → OneByOne f e image n
+  pub refused : (f e : ℕ) (image : List ℕ) → IsRefused (tellsCheck f e image) → AsChecked f e image
+  pub stepped : (f e n : ℕ) (image : List ℕ) → StepRule f e n image
+  pub twin : (f e : ℕ) (image : List ℕ) (n : ℕ) → Twin f e image n
