@@ -1,2 +1,4 @@
 pub mod Whole
 pub mod Records
+pub mod Lent
+pub mod FromC

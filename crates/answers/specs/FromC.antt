@@ -1,0 +1,110 @@
+-- What a C program may rely on, said of the exports alone (docs/C-INTERFACE.md): the numbers that each can give, and demands 2 and 3.
+-- Lent memory is bytes: that is asked of the image that is read, and of the output that is read again.
+-- Assumes nothing.
+use Prim.Native.Nat.{ℕ, _+_, _*_, _≤_, _<_}
+use mathlib.Core.Path.{_≡_}
+use mathlib.Core.List.{List, [], _∷_, map}
+use mathlib.Core.Bool.{true}
+use lib.ListN.{length, take}
+use Rattle.layout.specs.declared.Format.{Format}
+use Rattle.layout.specs.Bytes.{oneOf, part}
+use Rattle.layout.specs.Walk.{Content}
+use Rattle.layout.specs.Write.{word, fieldsIn}
+use Rattle.laws.specs.Contents.{replaced}
+use Rattle.laws.specs.Grammar.{Each}
+use Rattle.boardid.specs.Exports.{Given, checkCall, valueCall, stringCall, entryCall, listCall, stepCall, writeCall, editCall}
+use Rattle.promises.specs.Words.{KnownEdition, Serves, Item}
+use Rattle.promises.specs.Names.{Named}
+use Rattle.promises.specs.Numbers.{imageNumbers, writeNumbers}
+use Rattle.promises.specs.RoundTrip.{fieldSays}
+use Rattle.answers.specs.Whole.{numberOf, countOf}
+
+abbrev pub Bytes : List ℕ → Type 0
+Bytes m = Each (λ b. b < 256) m
+
+-- ---- numbers
+
+-- the number is 0, or one of these
+abbrev pub OneOf : List ℕ → ℕ → Type 0
+OneOf numbers answer = oneOf (0 ∷ numbers) (numberOf answer) ≡ true
+
+-- the table of docs/C-INTERFACE.md, "The order"
+pub record NumbersFromC : Type 0 where
+  pub checked : (f e : ℕ) (img : List ℕ) → OneOf imageNumbers (checkCall f e img)
+  pub listed : (f e : ℕ) (img m : List ℕ) → OneOf (12 ∷ imageNumbers) (listCall f e img m .answer)
+  pub entry : (f e : ℕ) (img : List ℕ) (n : ℕ) (m : List ℕ) → OneOf (12 ∷ 13 ∷ imageNumbers) (entryCall f e img n m .answer)
+  pub value : (f e : ℕ) (img : List ℕ) (n : ℕ) → OneOf (13 ∷ imageNumbers) (valueCall f e img n)
+  pub string : (f e : ℕ) (img : List ℕ) (number : ℕ) → OneOf (15 ∷ imageNumbers) (stringCall f e img number)
+  pub stepped : (w img m : List ℕ) → OneOf (12 ∷ 13 ∷ imageNumbers) (stepCall w img m .answer)
+  pub written : (f e : ℕ) (fields values out : List ℕ) → OneOf writeNumbers (writeCall f e fields values out .answer)
+  pub edited : (f e : ℕ) (img : List ℕ) (n : ℕ) (value out : List ℕ) → OneOf (13 ∷ 14 ∷ 12 ∷ imageNumbers) (editCall f e img n value out .answer)
+
+-- ---- how C reads a list
+
+-- word k of record j
+abbrev pub recordWord : List ℕ → ℕ → ℕ → ℕ
+recordWord records j k = word (j * 64 + k * 4) records
+
+-- what record j says: its code, and the image's bytes at its places
+abbrev pub recordSays : List ℕ → List ℕ → ℕ → Content
+recordSays image records j =
+    record {
+      code = recordWord records j 0;
+      key = part (recordWord records j 3) (recordWord records j 4) image;
+      value = part (recordWord records j 5) (recordWord records j 6) image;
+    }
+
+-- the check accepts the image, and with room enough the records that the list leaves say just these codes, keys and values, in order
+pub record ReadFromC (f e : ℕ) (image : List ℕ) (cs : List Content) : Type 0 where
+  pub accepted : numberOf (checkCall f e image) ≡ 0
+  pub counted : countOf (checkCall f e image) ≡ length cs
+  pub listed : (m : List ℕ) → length cs * 64 ≤ length m → listCall f e image m .answer ≡ checkCall f e image
+  pub says : (m : List ℕ) → length cs * 64 ≤ length m → (j : ℕ) (c : Content) → Item cs j c → recordSays image (listCall f e image m .memory) j ≡ c
+
+-- ---- demand 2
+
+-- what was written reads back, in the whole output and in its part up to the length given
+abbrev pub WrittenFromC : Type 0
+WrittenFromC =
+    (f e : ℕ) (fields values out : List ℕ) → numberOf (writeCall f e fields values out .answer) ≡ 0 →
+    let output = writeCall f e fields values out .memory in
+    let said = map (fieldSays f values) (fieldsIn fields) in
+    Bytes output → ReadFromC f e output said × ReadFromC f e (take (countOf (writeCall f e fields values out .answer)) output) said
+
+-- every accepted image is read so
+abbrev pub AcceptedFromC : Type 0
+AcceptedFromC = (f e : ℕ) (image : List ℕ) → Bytes image → numberOf (checkCall f e image) ≡ 0 → (cs : List Content) × ReadFromC f e image cs
+
+-- ---- demand 3
+
+-- record j of an older edition's list, beside a newer one's: all words are the same where the older edition names the code; else kind and reading are 0 and the others the same
+pub record SameRecord (format : Format) (o : ℕ) (older newer : List ℕ) (j : ℕ) : Type 0 where
+  pub placed : (k : ℕ) → k < 8 → (k ≡ 1 → ⊥) → recordWord older j k ≡ recordWord newer j k
+  pub named : Named format o (recordWord older j 0) → (k : ℕ) → k < 16 → recordWord older j k ≡ recordWord newer j k
+  pub kindless : (Named format o (recordWord older j 0) → ⊥) → recordWord older j 1 ≡ 0
+  pub unread : (Named format o (recordWord older j 0) → ⊥) → (k : ℕ) → 8 ≤ k → k < 16 → recordWord older j k ≡ 0
+
+pub record OlderFromC (f o n : ℕ) (image : List ℕ) : Type 0 where
+  pub format : Format
+  pub serves : Serves f o format
+  pub accepted : checkCall f o image ≡ checkCall f n image
+  pub alike : (m : List ℕ) → countOf (checkCall f n image) * 64 ≤ length m → (j : ℕ) → j < countOf (checkCall f n image) →
+      SameRecord format o (listCall f o image m .memory) (listCall f n image m .memory) j
+
+-- edition n reads its former list with value i replaced, in the whole output and in its part up to the length given
+pub record EditedFromC (f n : ℕ) (image : List ℕ) (i : ℕ) (value output : List ℕ) (m : ℕ) : Type 0 where
+  pub former : List Content
+  pub before : ReadFromC f n image former
+  pub whole : ReadFromC f n output (replaced former i value)
+  pub front : ReadFromC f n (take m output) (replaced former i value)
+
+-- o is no newer than n
+pub record FromC : Type 0 where
+  pub numbers : NumbersFromC
+  pub accepted : AcceptedFromC
+  pub written : WrittenFromC
+  pub older : (f o n : ℕ) (image : List ℕ) → Bytes image → KnownEdition o → o ≤ n → numberOf (checkCall f n image) ≡ 0 → OlderFromC f o n image
+  pub edited : (f o n : ℕ) (image : List ℕ) (i : ℕ) (value out : List ℕ) → Bytes image → o ≤ n → numberOf (checkCall f n image) ≡ 0 →
+      numberOf (editCall f o image i value out .answer) ≡ 0 →
+      let output = editCall f o image i value out .memory in
+      Bytes output → EditedFromC f n image i value output (countOf (editCall f o image i value out .answer))
