@@ -57,18 +57,18 @@ records-none = refl
 -- ---- what stands at a place
 
 -- the frame of the entry that stands there
-record Framing (S : Shape) (e : ℕ) (image : List ℕ) (shut : Bool) (p end : ℕ) (s : Standing) : Type 0 where
+record StandingFrame (S : Shape) (e : ℕ) (image : List ℕ) (shut : Bool) (p end : ℕ) (s : Standing) : Type 0 where
   pub frame : Frame
   pub reads : next S shut (part p (end - p) image) ≡ Framed frame
   pub entry : s .entry ≡ entryOf S e p (rawOf frame (part p (end - p) image))
   pub next-place : s .next ≡ p + frame .size
   pub next-shut : s .shut ≡ S .last (frame .code)
 
-here-framed : (S : Shape) (e : ℕ) (image : List ℕ) (shut : Bool) (p end : ℕ) (s : Standing) → hereAt S e image shut p end ≡ Stands s → Framing S e image shut p end s
+here-framed : (S : Shape) (e : ℕ) (image : List ℕ) (shut : Bool) (p end : ℕ) (s : Standing) → hereAt S e image shut p end ≡ Stands s → StandingFrame S e image shut p end s
 unfolding hereAt
 here-framed S e image shut p end s q = go (next S shut (part p (end - p) image)) refl q
   where
-    go : (x : Next) → next S shut (part p (end - p) image) ≡ x → hereBy x S e p (part p (end - p) image) ≡ Stands s → Framing S e image shut p end s
+    go : (x : Next) → next S shut (part p (end - p) image) ≡ x → hereBy x S e p (part p (end - p) image) ≡ Stands s → StandingFrame S e image shut p end s
     go (Framed f) n q = record { frame = f; reads = n; entry = cc; next-place = cc; next-shut = cc }
     go Ended n q = let z : _≡_ {A = ℕ} 0 1 = cc in absurd (omega arith)
     go (Broken k) n q = let z : _≡_ {A = ℕ} 0 1 = cc in absurd (omega arith)

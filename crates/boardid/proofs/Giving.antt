@@ -31,7 +31,7 @@ use Rattle.accept.proofs.Rooms.{took, not-took}
 use Rattle.records.specs.Packed.{packed}
 use Rattle.records.specs.Words.{wordsBytes, recordBytes, recordsBytes}
 use Rattle.records.proofs.Words.{length-words}
-use Rattle.boardid.specs.Exports.{Given, kept, recorded, entryCall, walkFormat, walkEdition, walkEntry, walkAt, Walked, unmoved, steppedTo, stepped, stepCall, recordedAll, listedBy, listCall}
+use Rattle.boardid.specs.Exports.{Given, kept, recorded, entryCall, walkFormat, walkEdition, walkEntry, walkAt, Moved, unmoved, steppedTo, stepped, stepCall, recordedAll, recordedBy, listCall}
 use Rattle.boardid.proofs.Filling.{length-record, length-records}
 
 -- the packed answer does not show the entries that are given
@@ -122,7 +122,7 @@ module _ (w img m : List ℕ) where
 module _ (f e : ℕ) (img m : List ℕ) where
   pub list-refused : (r : Refusal) → taken f e img ≡ Isnt r → listCall f e img m ≡ kept r m
   unfolding listCall
-  list-refused r q = ap (λ (x : Read). listedBy x e m) (not-took f e img r q)
+  list-refused r q = ap (λ (x : Read). recordedBy x e m) (not-took f e img r q)
 
   module _ (room : Room) (q : taken f e img ≡ Is room) where
     abbrev raws : List Raw
@@ -139,7 +139,7 @@ module _ (f e : ℕ) (img m : List ℕ) where
 
     listed : listCall f e img m ≡ recordedAll given m
     unfolding listCall
-    listed = ap (λ (x : Read). listedBy x e m) (took f e img room q .read) ∙ ap (λ (rs : List Raw). recordedAll (entriesOf (shape (room .format)) e (room .start) rs) m) are
+    listed = ap (λ (x : Read). recordedBy x e m) (took f e img room q .read) ∙ ap (λ (rs : List Raw). recordedAll (entriesOf (shape (room .format)) e (room .start) rs) m) are
 
     pub list-short : length m / 64 < room .count → listCall f e img m ≡ kept (refusal 12 0) m
     list-short lt = listed ∙ rw (lt-leb (length given) (length m / 64) (omega (arith, many)))

@@ -66,26 +66,26 @@ abbrev pub walkAt : List ℕ → ℕ → List ℕ
 walkAt w n = take 8 w ++ (wordsBytes (n ∷ n / 4294967296 ∷ []) ++ drop 16 w)
 
 -- an answer, the walk and the record
-pub record Walked : Type 0 where
+pub record Moved : Type 0 where
   pub answer : ℕ
   pub walk : List ℕ
   pub memory : List ℕ
 
-abbrev pub unmoved : Refusal → List ℕ → List ℕ → Walked
+abbrev pub unmoved : Refusal → List ℕ → List ℕ → Moved
 unmoved r w m = record { answer = packed (toldRefusal r); walk = w; memory = m }
 
 -- the walk has the entry number n where the step is not refused
-abbrev pub steppedTo : Lookup → ℕ → List ℕ → List ℕ → Walked
+abbrev pub steppedTo : Lookup → ℕ → List ℕ → List ℕ → Moved
 steppedTo (Found x) n w m =
     if (leb 64 (length m))
     (λ _. record { answer = packed (toldLookup (Found x)); walk = walkAt w n; memory = recordBytes x ++ drop 64 m })
     (λ _. unmoved (refusal 12 0) w m)
 steppedTo (Missing r) n w m = unmoved r w m
 
-abbrev pub stepped : Step → List ℕ → List ℕ → Walked
+abbrev pub stepped : Step → List ℕ → List ℕ → Moved
 stepped s w m = steppedTo (s .answer) (s .next) w m
 
-unfoldable pub stepCall : List ℕ → List ℕ → List ℕ → Walked
+unfoldable pub stepCall : List ℕ → List ℕ → List ℕ → Moved
 stepCall w img m = stepped (stepFrom (walkFormat w) (walkEdition w) (walkEntry w) img) w m
 
 -- ---- all records
@@ -97,12 +97,12 @@ recordedAll es m =
     (λ _. record { answer = packed (told (length es) (partAt 0 0) es); memory = recordsBytes es ++ drop (length es * 64) m })
     (λ _. kept (refusal 12 0) m)
 
-abbrev pub listedBy : Read → ℕ → List ℕ → Given
-listedBy (accepted f start rs) e m = recordedAll (entriesOf (shape f) e start rs) m
-listedBy (refused r) e m = kept r m
+abbrev pub recordedBy : Read → ℕ → List ℕ → Given
+recordedBy (accepted f start rs) e m = recordedAll (entriesOf (shape f) e start rs) m
+recordedBy (refused r) e m = kept r m
 
 unfoldable pub listCall : ℕ → ℕ → List ℕ → List ℕ → Given
-listCall f e img m = listedBy (readImage f e img) e m
+listCall f e img m = recordedBy (readImage f e img) e m
 
 -- ---- write and edit
 

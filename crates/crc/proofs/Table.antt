@@ -18,6 +18,10 @@ made-from f (suc n) i (suc k) h = made-from f n (suc i) k (le-of-suc-le-suc h) �
 pub made : (f : ℕ → ℕ) (n k : ℕ) → k < n → getD (rows f n 0) k 0 ≡ f k
 made f n k h = made-from f n 0 k h ∙ ap f (zero-add k)
 
--- The same of a table that is the made one.
-pub made-at : (f : ℕ → ℕ) (t : List ℕ) (k : ℕ) → k < 256 → t ≡ rows f 256 0 → getD t k 0 ≡ f k
+-- A table's rule over all its 256 entries: it is the made one. Of a constant table antt computes it.
+abbrev pub Made : (ℕ → ℕ) → List ℕ → Type 0
+Made f t = t ≡ rows f 256 0
+
+-- A table's rule, carried to each index.
+pub made-at : (f : ℕ → ℕ) (t : List ℕ) (k : ℕ) → k < 256 → Made f t → getD t k 0 ≡ f k
 made-at f t k lt is = ap (λ (l : List ℕ). getD l k 0) is ∙ made f 256 k lt

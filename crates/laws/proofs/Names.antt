@@ -18,14 +18,14 @@ use Rattle.layout.specs.Editions.{shape, from, never, sinceIn, reached, names}
 use Rattle.laws.specs.Grammar.{Each, none, also}
 use Rattle.laws.proofs.Choices.{false-true, both}
 
-named-below : (ns : List Naming) (e c : ℕ) → Each (λ n. n .last < 256) ns → reached (sinceIn ns c) e ≡ true → c < 256
+named-below : (ns : List Naming) (e c : ℕ) → Each (λ n. n .high < 256) ns → reached (sinceIn ns c) e ≡ true → c < 256
 unfolding sinceIn
 named-below [] e c none h = false-true h
-named-below (n ∷ ns) e c (also lt lts) h = go (between (n .first) (n .last) c) refl h (named-below ns e c lts)
+named-below (n ∷ ns) e c (also lt lts) h = go (between (n .low) (n .high) c) refl h (named-below ns e c lts)
   where
-    go : (b : Bool) → between (n .first) (n .last) c ≡ b → reached (if b (λ _. from (n .edition)) (λ _. sinceIn ns c)) e ≡ true →
+    go : (b : Bool) → between (n .low) (n .high) c ≡ b → reached (if b (λ _. from (n .edition)) (λ _. sinceIn ns c)) e ≡ true →
         (reached (sinceIn ns c) e ≡ true → c < 256) → c < 256
-    go true t h rest = let w = both (leb (n .first) c) (leb c (n .last)) t in omega (arith, leb-true c (n .last) (w .1))
+    go true t h rest = let w = both (leb (n .low) c) (leb c (n .high)) t in omega (arith, leb-true c (n .high) (w .1))
     go false t h rest = rest h
 
 pub named-byte : (f : Format) (e c : ℕ) → names (shape f) e c ≡ true → c < 256

@@ -29,7 +29,11 @@ abbrev pub keyPart : Bool → ℕ → Raw → Part
 keyPart true p r = partAt (p + r .frame .key) (r .frame .klen)
 keyPart false p r = partAt (p + r .frame .val) 0
 
--- the record of an entry whose first byte stands at p. Kind 0 always has plain bytes
+-- what the value of an entry of this code means in an edition. Kind 0 always has plain bytes
+abbrev pub readingBy : Shape → ℕ → ℕ → List ℕ → Reading
+readingBy S e c value = if (names S e c) (λ _. S .reading c value) (λ _. Plain)
+
+-- the record of an entry whose first byte stands at p
 unfoldable pub entryOf : Shape → ℕ → ℕ → Raw → Entry
 entryOf S e p r =
     record {
@@ -38,7 +42,7 @@ entryOf S e p r =
       place = place p;
       key = keyPart (S .keyed) p r;
       value = partAt (p + r .frame .val) (r .frame .vlen);
-      reading = if (names S e (r .frame .code)) (λ _. S .reading (r .frame .code) (content r .value)) (λ _. Plain);
+      reading = readingBy S e (r .frame .code) (content r .value);
     }
 
 -- one record for each entry, in image order

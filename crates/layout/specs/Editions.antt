@@ -42,7 +42,7 @@ pub data Since : Type 0 where
 
 unfoldable pub sinceIn : List Naming → ℕ → Since
 sinceIn [] c = never
-sinceIn (n ∷ ns) c = if (between (n .first) (n .last) c) (λ _. from (n .edition)) (λ _. sinceIn ns c)
+sinceIn (n ∷ ns) c = if (between (n .low) (n .high) c) (λ _. from (n .edition)) (λ _. sinceIn ns c)
 
 abbrev pub since : Shape → ℕ → Since
 since S c = sinceIn (S .namings) c

@@ -17,14 +17,14 @@ use Rattle.layout.specs.declared.Opened.{Opened}
 use Rattle.layout.specs.declared.Reading.{Reading}
 use Rattle.layout.specs.Bytes.{if}
 
--- a line of 01's "Editions and kinds": the edition from which on the codes from first to last are named
+-- a line of 01's "Editions and kinds": the edition from which on the codes from low to high are named
 pub record Naming : Type 0 where
   pub edition : ℕ
-  pub first : ℕ
-  pub last : ℕ
+  pub low : ℕ
+  pub high : ℕ
 
 abbrev pub naming : ℕ → ℕ → ℕ → Naming
-naming e a b = record { edition = e; first = a; last = b }
+naming e a b = record { edition = e; low = a; high = b }
 
 -- what tells entries apart: the code and the key, and never the value
 pub record Label : Type 0 where

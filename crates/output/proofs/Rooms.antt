@@ -1,4 +1,4 @@
--- What opens an entry and a value, where there is room for them; and that writing them changes no length.
+-- What opens an entry and a value, where there is room for them.
 -- Assumes nothing.
 use Prim.Native.Nat.{ℕ, _+_, _≤_, _<_}
 use mathlib.Core.Path.{_≡_, refl, sym, _∙_}
@@ -10,11 +10,10 @@ use lib.ListN.{length, length-append}
 use lib.Dec.{ltb, leb}
 use Rattle.layout.specs.Shape.{Shape}
 use Rattle.layout.specs.Read.{limit}
-use Rattle.laws.proofs.Choices.{either, both}
+use Rattle.laws.proofs.Choices.{both}
 use Rattle.output.specs.Lengths.{capped, hasRoom}
 use Rattle.output.specs.Placing.{copied, placed, openingPlaced, valuePlaced}
 use Rattle.output.proofs.Lengths.{capped-min, fits-alike}
-use Rattle.output.proofs.Overlay.{length-over}
 
 module _ (room a n : ℕ) where
   pub room-known : hasRoom room a n ≡ true → (room ≤ limit) × (a + n ≤ room)
@@ -35,12 +34,6 @@ module _ (d : List ℕ) (a : ℕ) (s : List ℕ) (ok : Bool) where
   unfolding hasRoom
   placed-nowhere e = rw (and-assoc, e, and-false)
 
-  length-placed : length (placed ok d a s) ≡ length d
-  length-placed =
-      either (λ (x : List ℕ). length x ≡ length d) (ok && leb (a + length s) (length d))
-      (λ e. length-over d a s (leb-true (a + length s) (length d) (both ok (leb (a + length s) (length d)) e .1)))
-      (λ e. refl)
-
 module _ (S : Shape) (d : List ℕ) (a c : ℕ) (s : List ℕ) where
   -- what opens an entry with the key s
 
@@ -56,10 +49,6 @@ module _ (S : Shape) (d : List ℕ) (a c : ℕ) (s : List ℕ) where
   unfolding openingPlaced
   opening-not le = rw (le-ltb c 256 le)
 
-  pub length-opening : length (openingPlaced S d a c s) ≡ length d
-  unfolding openingPlaced
-  length-opening = length-placed d a (S .opening c s) (ltb c 256 && leb (length d) limit)
-
   -- the value s
 
   pub value-copied : S .lengthRule c (length s) ≡ true → length d ≤ limit → valuePlaced S d a c s ≡ copied d a (S .lens c (length s) ++ s)
@@ -73,7 +62,3 @@ module _ (S : Shape) (d : List ℕ) (a c : ℕ) (s : List ℕ) where
   pub value-not : S .lengthRule c (length s) ≡ false → d ≡ valuePlaced S d a c s
   unfolding valuePlaced
   value-not r = rw r
-
-  pub length-value : length (valuePlaced S d a c s) ≡ length d
-  unfolding valuePlaced
-  length-value = length-placed d a (S .lens c (length s) ++ s) (S .lengthRule c (length s) && leb (length d) limit)

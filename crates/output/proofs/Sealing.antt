@@ -1,22 +1,18 @@
 -- The header, the end and the check of an image that is written.
 -- Assumes nothing.
 use Prim.Native.Nat.{ℕ, _+_, _≤_}
-use mathlib.Core.Path.{_≡_, refl, _∙_}
+use mathlib.Core.Path.{_≡_, _∙_}
 use mathlib.Core.List.{List, _++_}
 use mathlib.Core.Bool.{true, false}
 use native.Mathlib.Nat.{zero-add, add-comm}
 use native.Mathlib.Omega.{arith}
-use lib.ListN.{length, take, drop, length-append, length-drop, length-replicate}
+use lib.ListN.{length, take, drop, length-drop}
 use lib.Seq.{take-append-add, length-take-le}
-use Rattle.layout.specs.declared.Format.{Format}
 use Rattle.layout.specs.Bytes.{part}
 use Rattle.layout.specs.Shape.{Shape}
-use Rattle.layout.specs.Editions.{shape}
 use Rattle.layout.specs.Write.{imageOf, padded}
-use Rattle.laws.proofs.Choices.{either}
 use Rattle.output.specs.Lengths.{fitsIn}
 use Rattle.output.specs.Placing.{over, copied, finished}
-use Rattle.output.proofs.Lengths.{length-image, fits-known}
 use Rattle.output.proofs.Overlay.{copied-over, length-copied}
 
 pub length-part : (a n : ℕ) (d : List ℕ) → n + a ≤ length d → length (part a n d) ≡ n
@@ -44,18 +40,3 @@ pub finished-is : (S : Shape) (d : List ℕ) (n : ℕ) → fitsIn S n (length d)
     padded (imageOf S (part (length (S .header n)) n d)) (length d) ≡ finished S d n
 unfolding finished
 finished-is S d n e = rw e
-
--- Padding fills the output.
-pub length-padded : (image : List ℕ) (n : ℕ) → length image ≤ n → length (padded image n) ≡ n
-length-padded image n le = simp (length-append, length-replicate) (omega arith)
-
-pub length-finished : (f : Format) (d : List ℕ) (n : ℕ) → length (finished (shape f) d n) ≡ length d
-unfolding finished
-length-finished f d n = either (λ (x : List ℕ). length x ≡ length d) (fitsIn (shape f) n (length d)) (λ e. whole e) (λ e. refl)
-  where
-    whole : fitsIn (shape f) n (length d) ≡ true → length (padded (imageOf (shape f) (part (length (shape f .header n)) n d)) (length d)) ≡ length d
-    whole e =
-        let H : List ℕ = shape f .header n in
-        let l : length (part (length H) n d) ≡ n = length-part (length H) n d (omega (arith, fits-known (shape f) n (length d) e)) in
-        length-padded (imageOf (shape f) (part (length H) n d)) (length d)
-        (rw (length-image f (part (length H) n d), l) (fits-known (shape f) n (length d) e .1))

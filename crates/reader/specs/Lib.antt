@@ -1,3 +1,2 @@
 pub mod Here
-pub mod Readings
 pub mod Walk

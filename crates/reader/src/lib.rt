@@ -6,10 +6,9 @@ ghost use lib.ListN.{length};
 ghost use Rattle.layout.specs.Bytes.{part};
 ghost use Rattle.layout.specs.Editions.{shape};
 ghost use Rattle.layout.specs.Walk.{content};
-ghost use Rattle.layout.specs.Calls.{checkImage, keyPart, entryOf, nth, entriesOf, entryAt, valueAt, stringIn, poolString, stringAt, bytesAt, verdict};
+ghost use Rattle.layout.specs.Calls.{checkImage, keyPart, readingBy, entryOf, nth, entriesOf, entryAt, valueAt, stringIn, poolString, stringAt, bytesAt, verdict};
 ghost use Rattle.laws.specs.Passes.{walked, IsDone, rawsIn};
 ghost use Rattle.reader.specs.Here.{hereAt};
-ghost use Rattle.reader.specs.Readings.{readingBy};
 ghost use Rattle.reader.specs.Walk.{stepWalk};
 use accept::Taken;
 use frames::Spot;
@@ -236,17 +235,17 @@ pub fn value_verdict(format: u32, edition: u32, image: &[u8], n: usize) -> Refus
 }
 
 // The string of this number in a pool whose bytes begin at `place` of the image.
-fn string_in(pool: &[u8], place: usize, number: usize) -> Located
-    requires { ⌜ place + length (now pool) ≤ 65536 ⌝ }
-    ensures { λ r. ⌜ r ≡ stringIn (now (pool .entry)) place 0 number ⌝ }
+fn string_in(pool: &[u8], place: Place, number: StringNumber) -> Located
+    requires { ⌜ place .0 + length (now pool) ≤ 65536 ⌝ }
+    ensures { λ r. ⌜ r ≡ stringIn (now (pool .entry)) (place .0) 0 (number .0) ⌝ }
 {
-    let mut skip = number;
+    let mut skip = number.0;
     let mut first: usize = 0;
     let mut i: usize = 0;
     while i < pool.len() {
         if 0x80 <= pool[i] {
             if skip == 0 {
-                return Located::At(part_at(place + first, i + 1 - first));
+                return Located::At(part_at(place.0 + first, i + 1 - first));
             }
             skip -= 1;
             first = i + 1;
@@ -257,18 +256,19 @@ fn string_in(pool: &[u8], place: usize, number: usize) -> Located
 }
 
 // The same in the pool of an image, whose entries begin at start.
-fn pool_string(image: &[u8], start: usize, end: usize, number: usize) -> Located
-    requires { ⌜ (start ≤ end) × (end ≤ length (now image)) × (length (now image) ≤ 65536) × IsDone (walked Format.Tiny (now image) start end) ⌝ }
-    ensures { λ r. ⌜ r ≡ poolString start (rawsIn (walked Format.Tiny (now (image .entry)) start end)) number ⌝ }
+fn pool_string(image: &[u8], start: Place, end: Place, number: StringNumber) -> Located
+    requires { ⌜ (start .0 ≤ end .0) × (end .0 ≤ length (now image)) × (length (now image) ≤ 65536) × IsDone (walked Format.Tiny (now image) (start .0) (end .0)) ⌝ }
+    ensures { λ r. ⌜ r ≡ poolString (start .0) (rawsIn (walked Format.Tiny (now (image .entry)) (start .0) (end .0))) (number .0) ⌝ }
 {
-    let mut p = start;
+    let mut p = start.0;
     let mut shut = false;
     loop {
-        let x = frames::next_frame(Format::Tiny, shut, image, p, end);
+        let x = frames::next_frame(Format::Tiny, shut, image, p, end.0);
         match x {
             Next::Framed(f) => {
                 if f.code == 1 {
-                    return string_in(frames::part_of(image, p + f.val, f.vlen), p + f.val, number);
+                    let at = p + f.val;
+                    return string_in(frames::part_of(image, at, f.vlen), Place(at), number);
                 }
                 shut = frames::is_last(Format::Tiny, f.code);
                 p += f.size;
@@ -293,7 +293,7 @@ pub fn string_part(format: u32, edition: u32, image: &[u8], number: StringNumber
     let t = accept::take_image(format, edition, image);
     match t {
         Taken::Isnt(r) => Located::Nowhere(r),
-        Taken::Is(room) => pool_string(image, room.start, room.end, number.0),
+        Taken::Is(room) => pool_string(image, Place(room.start), Place(room.end), number),
     }
 }
 

@@ -10,7 +10,7 @@ use Rattle.reader.specs.declared.Walk.{Walk}
 use Rattle.reader.specs.declared.Stepped.{Stepped}
 use Rattle.reader.specs.Walk.{stepWalk}
 use Rattle.records.specs.Words.{wordsBytes}
-use Rattle.boardid.specs.Exports.{Walked, walkFormat, walkEdition, walkEntry}
+use Rattle.boardid.specs.Exports.{Moved, walkFormat, walkEdition, walkEntry}
 use Rattle.boardid.proofs.Giving.{stepsTo, step-refused, step-short, step-given}
 use borrow.Author.Needs.{needs}
 use Rattle.boardid.proofs.boardid_step.Statement.{statement}
@@ -45,7 +45,7 @@ returns c =
     let e : c .before .before .before .before .before .step .result ≡ stepWalk (record { format = walkFormat w; edition = walkEdition w; entry = walkEntry w }) img = c .before .before .before .before .before .step .ensures ∙ ap (λ (v : Walk). stepWalk v img) (c .before .before .before .before .before .before .walk-in .ensures) in
     let q : stepsTo w img .answer ≡ Found (c .before .before .before .x2 .given .0 .0) = sym (ap (λ (t : Stepped). t .answer) e) ∙ c .before .before .before .x2 .given .1 in
     let z = step-short w img (now (a .out)) _ q (search needs) in
-    (c .no-room .ensures ∙ sym (ap (λ (g : Walked). g .answer) z), sym (ap (λ (g : Walked). g .walk) z), sym (ap (λ (g : Walked). g .memory) z))
+    (c .no-room .ensures ∙ sym (ap (λ (g : Moved). g .answer) z), sym (ap (λ (g : Moved). g .walk) z), sym (ap (λ (g : Moved). g .memory) z))
 
 put-long-requires : tie.Need-put-long-requires
 put-long-requires c κs = search needs
@@ -67,7 +67,7 @@ returns-2 c =
     let e : c .before .before .before .before .step .result ≡ stepWalk (record { format = walkFormat w; edition = walkEdition w; entry = walkEntry w }) img = c .before .before .before .before .step .ensures ∙ ap (λ (v : Walk). stepWalk v img) (c .before .before .before .before .before .walk-in .ensures) in
     let q : stepsTo w img .answer ≡ Missing (c .before .before .x .given .0 .0) = sym (ap (λ (t : Stepped). t .answer) e) ∙ c .before .before .x .given .1 in
     let z = step-refused w img (now (a .out)) _ q in
-    (c .pack-refusal .ensures ∙ sym (ap (λ (g : Walked). g .answer) z), sym (ap (λ (g : Walked). g .walk) z), sym (ap (λ (g : Walked). g .memory) z))
+    (c .pack-refusal .ensures ∙ sym (ap (λ (g : Moved). g .answer) z), sym (ap (λ (g : Moved). g .walk) z), sym (ap (λ (g : Moved). g .memory) z))
 
 same-length-3 : tie.Need-same-length-3
 same-length-3 c = search needs
@@ -84,7 +84,7 @@ returns-3 c =
     let q : stepsTo w img .answer ≡ Found (c .before .before .before .before .before .before .before .before .before .before .before .before .x2 .given .0 .0) = sym (ap (λ (t : Stepped). t .answer) e) ∙ c .before .before .before .before .before .before .before .before .before .before .before .before .x2 .given .1 in
     let z = step-given w img (now (a .out)) _ q (search needs) in
     let n : c .before .before .before .before .before .before .before .before .before .before .before .before .before .before .step .result .next .entry ≡ stepsTo w img .next = ap (λ (t : Stepped). t .next .entry) e in
-    (c .pack-count .ensures ∙ sym (ap (λ (g : Walked). g .answer) z), c .before .before .before .before .before .before .before .put-long .ensures ∙ ap (λ (k : ℕ). copied w 8 (wordsBytes (k ∷ k / 4294967296 ∷ []))) n ∙ sym (ap (λ (g : Walked). g .walk) z), c .before .before .before .put-record .ensures ∙ sym (ap (λ (g : Walked). g .memory) z))
+    (c .pack-count .ensures ∙ sym (ap (λ (g : Moved). g .answer) z), c .before .before .before .before .before .before .before .put-long .ensures ∙ ap (λ (k : ℕ). copied w 8 (wordsBytes (k ∷ k / 4294967296 ∷ []))) n ∙ sym (ap (λ (g : Moved). g .walk) z), c .before .before .before .put-record .ensures ∙ sym (ap (λ (g : Moved). g .memory) z))
 
 pub boardid-step-spec : {M : Type 1} → statement M
 boardid-step-spec =

@@ -10,8 +10,8 @@ use Rattle.layout.specs.declared.Next.the-variants.{Framed, Ended, Broken}
 use Rattle.layout.specs.Bytes.{part}
 use Rattle.layout.specs.Shape.{next}
 use Rattle.layout.specs.Editions.{shape}
+use Rattle.layout.specs.Calls.{readingBy}
 use Rattle.reader.specs.Here.{hereAt}
-use Rattle.reader.specs.Readings.{readingBy}
 use Rattle.reader.proofs.Lying.{read-lies, value-at}
 use Rattle.reader.proofs.entry_here.Statement.{statement}
 use Rattle.reader.proofs.entry_here.Tie as tie

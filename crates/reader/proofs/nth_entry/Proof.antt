@@ -9,7 +9,7 @@ use denote.Ref.{now}
 use Rattle.layout.specs.declared.Entry.{Entry}
 use Rattle.layout.specs.declared.Lookup.the-variants.{Found}
 use Rattle.layout.specs.Editions.{shape}
-use Rattle.reader.specs.Readings.{readingBy}
+use Rattle.layout.specs.Calls.{readingBy}
 use Rattle.reader.proofs.Lying.{value-at}
 use Rattle.reader.proofs.Finding.{nth-found, nth-missing}
 use Rattle.reader.proofs.nth_entry.Statement.{statement}

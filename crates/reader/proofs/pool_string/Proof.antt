@@ -21,15 +21,15 @@ use Rattle.reader.proofs.pool_string.Statement.{statement}
 use Rattle.reader.proofs.pool_string.Tie as tie
 
 abbrev Inv-loop : tie.InvT-loop
-Inv-loop image start end number p₀ shut₀ p shut = Pooling image start end number p shut
+Inv-loop image end number p₀ shut₀ p shut = Pooling image p₀ (end .0) (number .0) p shut
 
 abbrev μ-loop : tie.MeasureT-loop
-μ-loop image start end number p₀ shut₀ p shut = end - p
+μ-loop image end number p₀ shut₀ p shut = end .0 - p
 
 loop-holds : tie.Need-loop-holds Inv-loop μ-loop
 loop-holds c =
     let a = c .before .args in
-    pooling-starts (now (a .image)) (a .start) (a .end) (a .number) (c .before .pre .0) (c .before .pre .3)
+    pooling-starts (now (a .image)) (a .start .0) (a .end .0) (a .number .0) (c .before .pre .0) (c .before .pre .3)
 
 next-frame-requires : tie.Need-next-frame-requires Inv-loop μ-loop
 next-frame-requires c κs = search needs
@@ -37,47 +37,37 @@ next-frame-requires c κs = search needs
 enum-known-x : tie.Need-enum-known-x Inv-loop μ-loop
 enum-known-x c = search needs
 
-add-part-of : tie.Need-add-part-of Inv-loop μ-loop
-add-part-of c =
+add-at : tie.Need-add-at Inv-loop μ-loop
+add-at c =
     let a = c .before .before .before .before .before .before .before .before .before .args in
     let i = now (a .image) in
     let l = c .before .before .before .before .before .before .before .loop in
     let f = c .before .before .before .before .x .given .0 .0 in
-    let e : next tiny (l .shut) (part (l .p) (a .end - l .p) i) ≡ Framed f = sym (c .before .before .before .before .before .before .next-frame .ensures) ∙ c .before .before .before .before .x .given .1 in
-    let w = framed-lies Tiny (l .shut) i (l .p) (a .end) f e in
+    let e : next tiny (l .shut) (part (l .p) (a .end .0 - l .p) i) ≡ Framed f = sym (c .before .before .before .before .before .before .next-frame .ensures) ∙ c .before .before .before .before .x .given .1 in
+    let w = framed-lies Tiny (l .shut) i (l .p) (a .end .0) f e in
     omega (arith, w .lies .inside, w .lies .valueLast)
 
 part-of-requires : tie.Need-part-of-requires Inv-loop μ-loop
 part-of-requires c κs = search needs
 
-add-string-in : tie.Need-add-string-in Inv-loop μ-loop
-add-string-in c =
-    let a = c .before .before .before .before .before .before .before .before .before .before .before .args in
-    let i = now (a .image) in
-    let l = c .before .before .before .before .before .before .before .before .before .loop in
-    let f = c .before .before .before .before .before .before .x .given .0 .0 in
-    let e : next tiny (l .shut) (part (l .p) (a .end - l .p) i) ≡ Framed f = sym (c .before .before .before .before .before .before .before .before .next-frame .ensures) ∙ c .before .before .before .before .before .before .x .given .1 in
-    let w = framed-lies Tiny (l .shut) i (l .p) (a .end) f e in
-    omega (arith, w .lies .inside, w .lies .valueLast)
-
 string-in-requires : tie.Need-string-in-requires Inv-loop μ-loop
 string-in-requires c κs =
-    let a = c .before .before .before .before .before .before .before .before .before .before .before .args in
+    let a = c .before .before .before .before .before .before .before .before .before .before .args in
     let i = now (a .image) in
-    let l = c .before .before .before .before .before .before .before .before .before .loop in
-    let f = c .before .before .before .before .before .before .x .given .0 .0 in
-    let e : next tiny (l .shut) (part (l .p) (a .end - l .p) i) ≡ Framed f = sym (c .before .before .before .before .before .before .before .before .next-frame .ensures) ∙ c .before .before .before .before .before .before .x .given .1 in
-    let w = framed-lies Tiny (l .shut) i (l .p) (a .end) f e in
-    omega (arith, w .lies .inside, w .lies .valueLast, c .before .before .before .before .before .before .before .before .before .before .before .pre .2, ap length (c .before .part-of .ensures), part-most i (l .p + f .val) (f .vlen))
+    let l = c .before .before .before .before .before .before .before .before .loop in
+    let f = c .before .before .before .before .before .x .given .0 .0 in
+    let e : next tiny (l .shut) (part (l .p) (a .end .0 - l .p) i) ≡ Framed f = sym (c .before .before .before .before .before .before .before .next-frame .ensures) ∙ c .before .before .before .before .before .x .given .1 in
+    let w = framed-lies Tiny (l .shut) i (l .p) (a .end .0) f e in
+    omega (arith, w .lies .inside, w .lies .valueLast, c .before .before .before .before .before .before .before .before .before .before .pre .2, ap length (c .part-of .ensures), part-most i (l .p + f .val) (f .vlen))
 
 returns : tie.Need-returns Inv-loop μ-loop
 returns c =
-    let a = c .before .before .before .before .before .before .before .before .before .before .before .before .args in
+    let a = c .before .before .before .before .before .before .before .before .before .before .before .args in
     let i = now (a .image) in
-    let l = c .before .before .before .before .before .before .before .before .before .before .loop in
-    let f = c .before .before .before .before .before .before .before .x .given .0 .0 in
-    let e : next tiny (l .shut) (part (l .p) (a .end - l .p) i) ≡ Framed f = sym (c .before .before .before .before .before .before .before .before .before .next-frame .ensures) ∙ c .before .before .before .before .before .before .before .x .given .1 in
-    c .string-in .ensures ∙ ap (λ (bs : List ℕ). stringIn bs (l .p + f .val) 0 (a .number)) (c .before .before .part-of .ensures) ∙ sym (pooling-found (l .inv) f e (c .before .before .before .before .if1 .taken))
+    let l = c .before .before .before .before .before .before .before .before .before .loop in
+    let f = c .before .before .before .before .before .before .x .given .0 .0 in
+    let e : next tiny (l .shut) (part (l .p) (a .end .0 - l .p) i) ≡ Framed f = sym (c .before .before .before .before .before .before .before .before .next-frame .ensures) ∙ c .before .before .before .before .before .before .x .given .1 in
+    c .string-in .ensures ∙ ap (λ (bs : List ℕ). stringIn bs (l .p + f .val) 0 (a .number .0)) (c .before .part-of .ensures) ∙ sym (pooling-found (l .inv) f e (c .before .before .before .if1 .taken))
 
 is-last-requires : tie.Need-is-last-requires Inv-loop μ-loop
 is-last-requires c κs = search needs
@@ -88,8 +78,8 @@ add-p c =
     let i = now (a .image) in
     let l = c .before .before .before .before .before .before .before .before .loop in
     let f = c .before .before .before .before .before .x .given .0 .0 in
-    let e : next tiny (l .shut) (part (l .p) (a .end - l .p) i) ≡ Framed f = sym (c .before .before .before .before .before .before .before .next-frame .ensures) ∙ c .before .before .before .before .before .x .given .1 in
-    let w = framed-lies Tiny (l .shut) i (l .p) (a .end) f e in
+    let e : next tiny (l .shut) (part (l .p) (a .end .0 - l .p) i) ≡ Framed f = sym (c .before .before .before .before .before .before .before .next-frame .ensures) ∙ c .before .before .before .before .before .x .given .1 in
+    let w = framed-lies Tiny (l .shut) i (l .p) (a .end .0) f e in
     omega (arith, w .lies .inside)
 
 loop-less : tie.Need-loop-less Inv-loop μ-loop
@@ -98,8 +88,8 @@ loop-less c =
     let i = now (a .image) in
     let l = c .before .before .before .before .before .before .before .before .loop in
     let f = c .before .before .before .before .before .x .given .0 .0 in
-    let e : next tiny (l .shut) (part (l .p) (a .end - l .p) i) ≡ Framed f = sym (c .before .before .before .before .before .before .before .next-frame .ensures) ∙ c .before .before .before .before .before .x .given .1 in
-    let w = framed-lies Tiny (l .shut) i (l .p) (a .end) f e in
+    let e : next tiny (l .shut) (part (l .p) (a .end .0 - l .p) i) ≡ Framed f = sym (c .before .before .before .before .before .before .before .next-frame .ensures) ∙ c .before .before .before .before .before .x .given .1 in
+    let w = framed-lies Tiny (l .shut) i (l .p) (a .end .0) f e in
     omega (arith, w .bound, w .some)
 
 loop-again : tie.Need-loop-again Inv-loop μ-loop
@@ -108,7 +98,7 @@ loop-again c =
     let i = now (a .image) in
     let l = c .before .before .before .before .before .before .before .before .loop in
     let f = c .before .before .before .before .before .x .given .0 .0 in
-    let e : next tiny (l .shut) (part (l .p) (a .end - l .p) i) ≡ Framed f = sym (c .before .before .before .before .before .before .before .next-frame .ensures) ∙ c .before .before .before .before .before .x .given .1 in
+    let e : next tiny (l .shut) (part (l .p) (a .end .0 - l .p) i) ≡ Framed f = sym (c .before .before .before .before .before .before .before .next-frame .ensures) ∙ c .before .before .before .before .before .x .given .1 in
     rw (c .before .is-last .ensures) (pooling-on (l .inv) f e (c .before .before .if1 .left))
 
 enum-told : tie.Need-enum-told Inv-loop μ-loop
@@ -121,7 +111,7 @@ returns-2 : tie.Need-returns-2 Inv-loop μ-loop
 returns-2 c =
     let a = c .before .before .before .before .before .before .args in
     let l = c .before .before .before .before .loop in
-    let e : next tiny (l .shut) (part (l .p) (a .end - l .p) (now (a .image))) ≡ Ended = sym (c .before .before .before .next-frame .ensures) ∙ c .before .enum-told .given .1 in
+    let e : next tiny (l .shut) (part (l .p) (a .end .0 - l .p) (now (a .image))) ≡ Ended = sym (c .before .before .before .next-frame .ensures) ∙ c .before .enum-told .given .1 in
     rw (c .refusal .ensures) (sym (pooling-over (l .inv) e))
 
 enum-told-2 : tie.Need-enum-told-2 Inv-loop μ-loop
@@ -135,7 +125,7 @@ returns-3 c =
     let a = c .before .before .before .before .before .before .args in
     let l = c .before .before .before .before .loop in
     let k = c .before .enum-told2 .given .0 .0 in
-    let e : next tiny (l .shut) (part (l .p) (a .end - l .p) (now (a .image))) ≡ Broken k = sym (c .before .before .before .next-frame .ensures) ∙ c .before .enum-told2 .given .1 in
+    let e : next tiny (l .shut) (part (l .p) (a .end .0 - l .p) (now (a .image))) ≡ Broken k = sym (c .before .before .before .next-frame .ensures) ∙ c .before .enum-told2 .given .1 in
     pooling-unbroken (l .inv) k e
 
 pub pool-string-spec : {M : Type 1} → statement M
@@ -147,9 +137,8 @@ pool-string-spec =
     loop-holds
     next-frame-requires
     enum-known-x
-    add-part-of
+    add-at
     part-of-requires
-    add-string-in
     string-in-requires
     returns
     is-last-requires

@@ -15,15 +15,15 @@ use Rattle.reader.proofs.string_in.Statement.{statement}
 use Rattle.reader.proofs.string_in.Tie as tie
 
 abbrev Inv-loop : tie.InvT-loop
-Inv-loop pool place number skip₀ first₀ i₀ skip first i = (first ≤ i) × (i ≤ length pool) × (stringIn pool place 0 number ≡ stringFrom pool place first i skip)
+Inv-loop pool place skip₀ first₀ i₀ skip first i = (first ≤ i) × (i ≤ length pool) × (stringIn pool (place .0) 0 skip₀ ≡ stringFrom pool (place .0) first i skip)
 
 abbrev μ-loop : tie.MeasureT-loop
-μ-loop pool place number skip₀ first₀ i₀ skip first i = length pool - i
+μ-loop pool place skip₀ first₀ i₀ skip first i = length pool - i
 
 loop-holds : tie.Need-loop-holds Inv-loop μ-loop
 loop-holds c =
     let a = c .before .args in
-    (omega arith, omega arith, ap (λ (p : ℕ). stringIn (now (a .pool)) p 0 (a .number)) (sym (add-zero (a .place))))
+    (omega arith, omega arith, ap (λ (p : ℕ). stringIn (now (a .pool)) p 0 (a .number .0)) (sym (add-zero (a .place .0))))
 
 shared-slice-read-if1 : tie.Need-shared-slice-read-if1 Inv-loop μ-loop
 shared-slice-read-if1 c = search needs
@@ -42,11 +42,11 @@ part-at-requires c κs = search needs
 
 returns : tie.Need-returns Inv-loop μ-loop
 returns c =
-    let a = c .before .before .before .before .before .before .before .args in
+    let a = c .before .before .before .before .before .before .before .before .args in
     let s = now (a .pool) in
-    let l = c .before .before .before .before .before .loop in
+    let l = c .before .before .before .before .before .before .loop in
     rw (c .part-at .ensures)
-    (sym (l .inv .2 ∙ string-ends s (a .place) (l .first) (l .i) (l .skip) (l .inv .0) (c .before .before .before .before .loop-test .taken) (c .before .before .if1 .taken) (c .before .if2 .taken)))
+    (sym (l .inv .2 ∙ string-ends s (a .place .0) (l .first) (l .i) (l .skip) (l .inv .0) (c .before .before .before .before .before .loop-test .taken) (c .before .before .before .if1 .taken) (c .before .before .if2 .taken)))
 
 sub-skip : tie.Need-sub-skip Inv-loop μ-loop
 sub-skip c = search needs
@@ -68,11 +68,11 @@ loop-again c =
     ⊎-elim
     (λ w.
     let high : 128 ≤ getD s (l .i) 0 = w .0 .taken in
-    let same = l .inv .2 ∙ string-passes s (a .place) (l .first) (l .i) (l .skip) (l .inv .0) (c .before .before .loop-test .taken) high (omega (arith, w .1 .left)) in
+    let same = l .inv .2 ∙ string-passes s (a .place .0) (l .first) (l .i) (l .skip) (l .inv .0) (c .before .before .loop-test .taken) high (omega (arith, w .1 .left)) in
     (omega (arith, w .3), omega arith, rw (w .2, w .3) same))
     (λ w.
     let low : getD s (l .i) 0 < 128 = w .0 .left in
-    let same = l .inv .2 ∙ string-goes s (a .place) (l .first) (l .i) (l .skip) (l .inv .0) (c .before .before .loop-test .taken) low in
+    let same = l .inv .2 ∙ string-goes s (a .place .0) (l .first) (l .i) (l .skip) (l .inv .0) (c .before .before .loop-test .taken) low in
     (omega (arith, w .2), omega arith, rw (w .1, w .2) same))
     (c .if1 .came)
 
@@ -84,7 +84,7 @@ returns-2 c =
     let a = c .before .before .before .before .args in
     let s = now (a .pool) in
     let l = c .before .before .loop in
-    rw (c .refusal .ensures) (sym (l .inv .2 ∙ string-over s (a .place) (l .first) (l .i) (l .skip) (l .inv .0) (c .before .loop-test .left)))
+    rw (c .refusal .ensures) (sym (l .inv .2 ∙ string-over s (a .place .0) (l .first) (l .i) (l .skip) (l .inv .0) (c .before .loop-test .left)))
 
 pub string-in-spec : {M : Type 1} → statement M
 string-in-spec =
