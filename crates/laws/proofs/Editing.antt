@@ -73,6 +73,13 @@ may-editable S e p (r ∷ rs) zero v q = go (names S e (r .frame .code)) (S .len
     go true true n k q = let b = both (S .lengthRule (r .frame .code) (length v)) (S .valueRule (r .frame .code) v) k in (n, b .0, b .1)
 may-editable S e p (r ∷ rs) (suc i) v q = may-editable S e (p + r .frame .size) rs i v q
 
+-- and such an edit is allowed
+pub editable-may : (S : Shape) (e p : ℕ) (rs : List Raw) (i : ℕ) (v : List ℕ) → Editable S e rs i v → mayEdit S e p rs i v ≡ allowed
+unfolding mayEdit editRule
+editable-may S e p [] i v x = absurd x
+editable-may S e p (r ∷ rs) zero v x = rw (x .0, x .1, x .2)
+editable-may S e p (r ∷ rs) (suc i) v x = editable-may S e (p + r .frame .size) rs i v x
+
 -- the new value meets the rule of the entry
 pub editable-ruled : (S : Shape) (e : ℕ) (rs : List Raw) (i : ℕ) (v : List ℕ) → Editable S e rs i v → RuledAt S (map content rs) i v
 unfolding content
