@@ -1,2 +1,16 @@
 pub mod Accepting
+pub mod FormatNumbers
+pub mod Refusals
+pub mod Entries
+pub mod ReadCalls
+pub mod WriteCalls
+pub mod Numbers
 pub mod Telling
+pub mod Unchanged
+pub mod PublishedRules
+pub mod Older
+pub mod OlderReads
+pub mod Output
+pub mod RoundTrip
+pub mod Edits
+pub mod OlderEdits
