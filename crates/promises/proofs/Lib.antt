@@ -1,3 +1,4 @@
 pub mod Accepting
+pub mod FramesAlike
 pub mod Naming
 pub mod Telling
