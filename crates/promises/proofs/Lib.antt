@@ -5,6 +5,8 @@ pub mod Entries
 pub mod ReadCalls
 pub mod WriteCalls
 pub mod Numbers
+pub mod FramesAlike
+pub mod Naming
 pub mod Telling
 pub mod Unchanged
 pub mod PublishedRules
