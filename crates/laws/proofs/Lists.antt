@@ -16,7 +16,21 @@ byte-at l j b h e = rw (drop-cons l j 0 h, eqb-true (getD l j 0) b e)
 
 -- ---- what holds of each item
 
+pub each-map : {A : Type 0} {P Q : A → Type 0} {xs : List A} → ((x : A) → P x → Q x) → Each P xs → Each Q xs
+each-map f none = none
+each-map f (also p ps) = also (f _ p) (each-map f ps)
+
+pub each-both : {A : Type 0} {P Q R : A → Type 0} {xs : List A} → ((x : A) → P x → Q x → R x) → Each P xs → Each Q xs → Each R xs
+each-both f none none = none
+each-both f (also p ps) (also q qs) = also (f _ p q) (each-both f ps qs)
+
 module _ {A : Type 0} {P : A → Type 0} where
+  pub each-first : {x : A} {xs : List A} → Each P (x ∷ xs) → P x
+  each-first (also p ps) = p
+
+  pub each-rest : {x : A} {xs : List A} → Each P (x ∷ xs) → Each P xs
+  each-rest (also p ps) = ps
+
   pub each-left : (xs ys : List A) → Each P (xs ++ ys) → Each P xs
   each-left [] ys ps = none
   each-left (x ∷ xs) ys (also p ps) = also p (each-left xs ys ps)

@@ -15,12 +15,13 @@ use Rattle.layout.specs.Shape.{Shape}
 use Rattle.layout.specs.Fboss.{fboss}
 use Rattle.layout.specs.Vpd.{vpd, shortest}
 use Rattle.layout.specs.Tiny.{tiny}
-use Rattle.layout.specs.Editions.{shape}
+use Rattle.layout.specs.Editions.{shape, names}
 use Rattle.layout.specs.Walk.{Content}
 use Rattle.layout.specs.Read.{limit}
-use Rattle.layout.specs.Write.{entryBytes, entriesBytes, imageOf}
+use Rattle.layout.specs.Write.{writerRule, entryBytes, entriesBytes, imageOf}
+use Rattle.laws.proofs.Writing.{Writable, writer-parts, fresh-fits}
 use Rattle.laws.proofs.Formats.{laws}
-use Rattle.promises.specs.Written.{Written, fboss as fbossWritten, vpd as vpdWritten, tiny as tinyWritten, ShortLength, vpdBytes, lengthSize, keySize, entriesSize, headerSize, endSize}
+use Rattle.promises.specs.Written.{Written, fboss as fbossWritten, vpd as vpdWritten, tiny as tinyWritten, ShortLength, ShortEntry, ShortEntries, none, also, vpdBytes, lengthSize, keySize, entriesSize, headerSize, endSize}
 
 -- ---- how long it is
 
@@ -89,3 +90,26 @@ image-written Tiny entries = tinyWritten entries
 -- the length bytes that are written are the shortest
 pub length-short : (g : Format) (c n : ℕ) → shape g .lengthRule c n ≡ true → n ≤ limit → ShortLength g c (shape g .lens c n) n
 length-short g c n rule fits = record { says = laws g .lens-made c n rule fits; shortest = λ l bytes says. laws g .lens-shortest c n l bytes says }
+
+-- a new entry is one, and nothing in it could be shorter
+pub entry-short : (g : Format) (e : ℕ) (c : Content) → names (shape g) e (c .code) ≡ true → writerRule (shape g) c ≡ true → (shape g .keyed ≡ false → c .key ≡ []) →
+    length (entryBytes (shape g) c) ≤ limit → ShortEntry g (entryBytes (shape g) c) c
+unfolding entryBytes
+entry-short g e c n w k short =
+    let fits = fresh-fits (laws g) c k short in
+    record {
+      front = shape g .opening (c .code) (c .key);
+      lens = shape g .lens (c .code) (length (c .value));
+      is = refl;
+      opens = laws g .opening-made e (c .code) (c .key) n (fits .0) k;
+      shortest = λ l bytes opens. laws g .opening-shortest (c .code) (c .key) l bytes opens;
+      said = length-short g (c .code) (length (c .value)) (writer-parts (shape g) c w .1) (fits .1);
+    }
+
+pub entries-short : (g : Format) (e : ℕ) (b : Bool) (cs : List Content) → Writable (shape g) e b cs → length (entriesBytes (shape g) cs) ≤ limit →
+    ShortEntries g (entriesBytes (shape g) cs) cs
+unfolding entriesBytes
+entries-short g e b [] w short = none
+entries-short g e b (c ∷ cs) w short =
+    let joined = length-append (entryBytes (shape g) c) (entriesBytes (shape g) cs) in
+    also (entry-short g e c (w .1) (w .2) (w .3) (omega arith)) (entries-short g e (shape g .last (c .code)) cs (w .4) (omega arith))
