@@ -1,3 +1,5 @@
 pub mod Accepting
+pub mod Output
+pub mod Required
 pub mod Telling
 pub mod Written
