@@ -14,11 +14,8 @@ use Rattle.layout.specs.Walk.{Raw, Content, content, labelOf}
 use Rattle.layout.specs.Read.{same, seenBefore, readerRule, fault, Judged, fine, faulty, orElse, judge}
 use Rattle.laws.specs.Contents.{valued, replaced}
 use Rattle.laws.specs.Grammar.{Ruled, New, Each, none, also, Lawful, noMore, andThen}
+use Rattle.laws.proofs.Lists.{each-map}
 use Rattle.laws.proofs.Choices.{false-true, both}
-
-pub each-map : {A : Type 0} {P Q : A → Type 0} {xs : List A} → ((x : A) → P x → Q x) → Each P xs → Each Q xs
-each-map f none = none
-each-map f (also p ps) = also (f _ p) (each-map f ps)
 
 -- not seen before: no label seen is the same
 pub unseen : (S : Shape) (a : Label) (seen : List Label) → seenBefore S seen a ≡ false → Each (λ b. same S a b ≡ false) seen

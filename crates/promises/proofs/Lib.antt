@@ -16,3 +16,5 @@ pub mod Output
 pub mod RoundTrip
 pub mod Edits
 pub mod OlderEdits
+pub mod Required
+pub mod Written
