@@ -18,3 +18,4 @@ pub mod Edits
 pub mod OlderEdits
 pub mod Required
 pub mod Written
+pub mod Listing
