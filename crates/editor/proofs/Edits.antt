@@ -23,7 +23,7 @@ use Rattle.layout.specs.Read.{limit, Read}
 use Rattle.layout.specs.Write.{Outcome, refuse, put, imageOf}
 use Rattle.layout.specs.Edit.{revalued, editedBytes, editRule, Allowed, allowed, denied, mayEdit, editAllowed, editRead, editChosen, editEntry}
 use Rattle.laws.specs.Grammar.{Grammar, grammar}
-use Rattle.laws.proofs.Frames.{IsRaw, raw-size, part-between}
+use Rattle.laws.proofs.Frames.{raw-size, raw-at, part-between}
 use Rattle.laws.proofs.Calls.{edit-read}
 use Rattle.frames.specs.declared.Spot.the-variants.{At, Nowhere}
 use Rattle.frames.specs.Spots.{spotAt}
@@ -96,9 +96,6 @@ module _ (H past bytes after rest : List ℕ) {image : List ℕ} (is : image ≡
       let long : length x ≡ a = omega (arith, length-append H (past ++ bytes), length-append past bytes) in
       let split : image ≡ x ++ (after ++ rest) = is ∙ simp append-assoc in
       rw (en, split) (part-between x after rest a long)
-
-raw-at : {G : Grammar} {r : Raw} → IsRaw G r → r .frame .at ≤ r .frame .size
-raw-at i = rw (i .framed) (omega arith)
 
 revalued-spliced : (S : Shape) (r : Raw) (v past after : List ℕ) → past ++ (revalued S r v ++ after) ≡ spliced S (r .frame .code) (past ++ take (r .frame .at) (r .bytes)) v after
 unfolding revalued spliced
