@@ -19,3 +19,5 @@ pub mod OlderEdits
 pub mod Required
 pub mod Written
 pub mod Listing
+pub mod EditsTaken
+pub mod EditRule
