@@ -11,7 +11,6 @@ use lib.Dec.{leb, eqb}
 use borrow.Author.Tests.{leb-true, leb-false, le-leb, lt-leb, eqb-true}
 use Rattle.layout.specs.declared.Format.{Format}
 use Rattle.layout.specs.declared.Format.the-variants.{Fboss, Vpd, Tiny}
-use Rattle.layout.specs.declared.Checked.the-variants.{Accepted}
 use Rattle.layout.specs.declared.Reading.the-variants.{Number, Addresses, Tests}
 use Rattle.layout.specs.Bytes.{between, oneOf, part, highFirst}
 use Rattle.layout.specs.Shape.{Label}
@@ -21,7 +20,7 @@ use Rattle.layout.specs.Tiny.{tiny, tinyReading, passed}
 use Rattle.layout.specs.Editions.{shape, names, kind}
 use Rattle.layout.specs.Walk.{Raw, Content, content, labelOf}
 use Rattle.layout.specs.Read.{readerRule}
-use Rattle.layout.specs.Calls.{entryOf, entriesOf, checkImage}
+use Rattle.layout.specs.Calls.{entryOf, entriesOf}
 use Rattle.laws.specs.Contents.{said}
 use Rattle.laws.specs.Grammar.{grammar, TinySays, Ruled, Each, none, also, Lawful, andThen}
 use Rattle.laws.proofs.Frames.{IsRaw, raw-content}
@@ -29,12 +28,12 @@ use Rattle.laws.proofs.Walking.{Frames}
 use Rattle.laws.proofs.Records.{entries-count}
 use Rattle.laws.proofs.Formats.{laws}
 use Rattle.laws.proofs.Calls.{Found, check-found}
-use Rattle.promises.specs.Words.{Numbered, Serves, Counts, tellsCheck}
+use Rattle.promises.specs.Words.{Numbered, Serves}
 use Rattle.promises.specs.Names.{One, Two, Named, sinceOne, sinceTwo, tiny01, tiny10, tiny11, tiny60, tiny61, tiny62, tiny80, tiny81}
 use Rattle.promises.specs.Kinds.{base, FbossMeans, VpdMeans, TinyMeans, Means, Marked, MarkedList, Kinds}
 use Rattle.promises.proofs.Accepting.{lists, records-say}
 use Rattle.promises.proofs.Naming.{FromTo, each-between, named-names, unnamed-names}
-use Rattle.promises.proofs.Telling.{chosen-serves}
+use Rattle.promises.proofs.Telling.{chosen-serves, counts-accepted}
 
 -- ---- values of a known length
 
@@ -168,6 +167,5 @@ marked-list f e image n x =
       marked = all-marked f e g serves image [] false (x .start) (x .raws) (m .frames) (m .lawful) (records-say f e image g (x .start) (x .raws) r);
     }
 
-module _ (counts-accepted : (f e : ℕ) (image : List ℕ) (n : ℕ) → Counts (tellsCheck f e image) n → checkImage f e image ≡ Accepted n) where
-  pub kinds : Kinds
-  kinds f e image n q = marked-list f e image n (check-found f e image n (counts-accepted f e image n q))
+pub kinds : Kinds
+kinds f e image n q = marked-list f e image n (check-found f e image n (counts-accepted f e image n q))
