@@ -8,6 +8,9 @@ pub mod WriteCalls
 pub mod Numbers
 pub mod Telling
 pub mod Unchanged
+pub mod Naming
+pub mod RecordKinds
+pub mod FramesAlike
 pub mod PublishedRules
 pub mod Older
 pub mod OlderReads
