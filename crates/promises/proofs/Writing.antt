@@ -1,12 +1,12 @@
 -- What a write puts out, and which lists of fields it takes.
 -- Assumes nothing.
-use Prim.Native.Nat.{ℕ, _+_, _-_, _≤_}
-use mathlib.Core.Path.{_≡_, refl, ap, sym, _∙_}
+use Prim.Native.Nat.{ℕ, _+_, _≤_}
+use mathlib.Core.Path.{_≡_, refl, sym, _∙_}
 use mathlib.Core.List.{List, [], _∷_, map}
-use mathlib.Core.Bool.{Bool, true, false, _&&_}
+use mathlib.Core.Bool.{Bool, true, false}
 use native.Mathlib.Omega.{arith}
 use lib.ListN.{length}
-use lib.Dec.{leb, eqb}
+use lib.Dec.{eqb}
 use borrow.Author.Tests.{leb-true, le-leb, le-ltb, eqb-true, eq-eqb}
 use Rattle.layout.specs.declared.Format.{Format}
 use Rattle.layout.specs.declared.Format.the-variants.{Fboss, Vpd, Tiny}
@@ -18,10 +18,10 @@ use Rattle.layout.specs.Shape.{Shape}
 use Rattle.layout.specs.Fboss.{fboss}
 use Rattle.layout.specs.Vpd.{vpd, vpdTwice}
 use Rattle.layout.specs.Tiny.{tiny}
-use Rattle.layout.specs.Editions.{shape, chosen, names}
+use Rattle.layout.specs.Editions.{shape, chosen}
 use Rattle.layout.specs.Walk.{Content, labelOf}
 use Rattle.layout.specs.Read.{limit, same, fine, complete}
-use Rattle.layout.specs.Write.{inside, partsInside, judgeFields, contentsOf, contentCodes, entriesBytes, imageOf, put, writerRule, writeAs, writeImage}
+use Rattle.layout.specs.Write.{inside, partsInside, judgeFields, contentsOf, contentCodes, entriesBytes, imageOf, put, writeAs, writeImage}
 use Rattle.laws.specs.Grammar.{none}
 use Rattle.laws.proofs.Choices.{false-true, both}
 use Rattle.laws.proofs.Lists.{each-map, each-every}
@@ -29,16 +29,16 @@ use Rattle.laws.proofs.Images.{same-refl, same-true}
 use Rattle.laws.proofs.Writing.{Single, Follow, Fine, judged-fine, fine-judged, fields-fine}
 use Rattle.laws.proofs.Formats.{laws}
 use Rattle.laws.proofs.Calls.{chosen-stands}
-use Rattle.promises.specs.Words.{KnownEdition, Serves, Counts, tellsWrite}
-use Rattle.promises.specs.Names.{Named}
+use Rattle.promises.specs.Words.{tellsWrite}
 use Rattle.promises.specs.RoundTrip.{fieldSays}
 use Rattle.promises.specs.Written.{headerSize, entriesSize, endSize, Fits}
-use Rattle.promises.specs.Writing.{Wrote as Puts, Within, Inside, Again, Once, Ordered, required, Writable, Writing}
-use Rattle.promises.proofs.Telling.{serves-chosen, chosen-serves}
-use Rattle.promises.proofs.Output.{entries-shorter, put-fits, put-fitting}
+use Rattle.promises.specs.Writing.{Wrote as Puts, Inside, Again, Once, Ordered, required, Writable, Writing}
+use Rattle.promises.proofs.Naming.{named-names, names-named}
+use Rattle.promises.proofs.Telling.{serves-chosen, chosen-serves, counts-written, written-some}
+use Rattle.promises.proofs.Output.{put-fits, put-fitting}
 use Rattle.promises.proofs.Required.{complete-among, among-complete}
 use Rattle.promises.proofs.Written.{image-written, image-size, entries-size, entries-short}
-use Rattle.promises.proofs.RoundTrip.{Done, write-done, fields-said}
+use Rattle.promises.proofs.RoundTrip.{Done, write-done, done-short, fields-said}
 
 -- what would make two numbers one is not so
 differ : {A : Type 0} → _≡_ {A = ℕ} 0 1 → A
@@ -146,47 +146,45 @@ tiny-most g size h is = rw is at h
 made-size : (g : Format) (cs : List Content) → length (imageOf (shape g) (entriesBytes (shape g) cs)) ≡ headerSize g + entriesSize g cs + endSize g
 made-size g cs = omega (arith, image-size g (entriesBytes (shape g) cs), entries-size g cs)
 
--- fields that are judged fine and complete are put
-write-puts : (f e : ℕ) (xs : List Field) (values out : List ℕ) (g : Format) → chosen f e ≡ Known g → length out ≤ limit →
-    judgeFields (shape g) e values false [] xs 0 ≡ fine → complete (shape g .required) (contentCodes (contentsOf (shape g) values xs)) ≡ true →
-    writeImage f e xs values out ≡ put (shape g) (imageOf (shape g) (entriesBytes (shape g) (contentsOf (shape g) values xs))) out
-unfolding writeImage writeAs
-write-puts f e xs values out g k short j c = rw (k, le-ltb limit (length out) short, j, c)
+module _ (f e : ℕ) (xs : List Field) (values out : List ℕ) where
+  contents-said : (g : Format) → chosen f e ≡ Known g → contentsOf (shape g) values xs ≡ map (fieldSays f values) xs
+  contents-said g known = fields-said f g values xs (chosen-stands f e g known .0)
 
-done-puts : (f e : ℕ) (xs : List Field) (values out : List ℕ) (n : ℕ) → Done f e xs values out n → Puts f e xs values out n
-done-puts f e xs values out n d =
-    let g = d .format in
-    let S : Shape = shape g in
-    let cs : List Content = contentsOf S values xs in
-    let said : cs ≡ map (fieldSays f values) xs = fields-said f g values xs (chosen-stands f e g (d .known) .0) in
-    let short : length (entriesBytes S cs) ≤ limit = omega (arith, entries-shorter S (entriesBytes S cs), d .took .fits, d .short) in
-    record {
-      format = g;
-      serves = chosen-serves f e g (d .known);
-      entries = entriesBytes S cs;
-      made = rw (← said) (entries-short g e false cs (fields-fine (laws g) e values false [] xs 0 (d .judged) .0) short);
-      image = imageOf S (entriesBytes S cs);
-      written = image-written g (entriesBytes S cs);
-      long = d .took .long;
-      size = rw (← said) (d .took .long ∙ made-size g cs);
-      filled = d .took .padding;
-    }
+  -- fields that are judged fine and complete are put
+  write-puts : (g : Format) → chosen f e ≡ Known g → length out ≤ limit → judgeFields (shape g) e values false [] xs 0 ≡ fine →
+      complete (shape g .required) (contentCodes (contentsOf (shape g) values xs)) ≡ true →
+      writeImage f e xs values out ≡ put (shape g) (imageOf (shape g) (entriesBytes (shape g) (contentsOf (shape g) values xs))) out
+  unfolding writeImage writeAs
+  write-puts g known short judged complete = rw (known, le-ltb limit (length out) short, judged, complete)
 
-module _
-    (counts-written : (f e : ℕ) (fields : List Field) (values out : List ℕ) (n : ℕ) → Counts (tellsWrite f e fields values out) n → writeImage f e fields values out .answer ≡ Wrote n)
-    (written-some : (f e : ℕ) (fields : List Field) (values out : List ℕ) → tellsWrite f e fields values out .number ≡ 0 → (n : ℕ) × (writeImage f e fields values out .answer ≡ Wrote n))
-    (named-names : (g : Format) (e c : ℕ) → Named g e c → names (shape g) e c ≡ true)
-    (names-named : (g : Format) (e c : ℕ) → KnownEdition e → names (shape g) e c ≡ true → Named g e c) where
-  done-writable : (f e : ℕ) (xs : List Field) (values out : List ℕ) (n : ℕ) → writeImage f e xs values out .answer ≡ Wrote n → Done f e xs values out n → Writable f e xs values out
-  done-writable f e xs values out n q d =
+  done-puts : (n : ℕ) → Done f e xs values out n → Puts f e xs values out n
+  done-puts n d =
       let g = d .format in
       let S : Shape = shape g in
       let cs : List Content = contentsOf S values xs in
-      let said : cs ≡ map (fieldSays f values) xs = fields-said f g values xs (chosen-stands f e g (d .known) .0) in
+      let said = contents-said g (d .known) in
+      record {
+        format = g;
+        serves = chosen-serves f e g (d .known);
+        entries = entriesBytes S cs;
+        made = rw (← said) (entries-short g e false cs (fields-fine (laws g) e values false [] xs 0 (d .judged) .0) (done-short d));
+        image = imageOf S (entriesBytes S cs);
+        written = image-written g (entriesBytes S cs);
+        long = d .took .long;
+        size = rw (← said) (d .took .long ∙ made-size g cs);
+        filled = d .took .padding;
+      }
+
+  done-writable : (n : ℕ) → writeImage f e xs values out .answer ≡ Wrote n → Done f e xs values out n → Writable f e xs values out
+  done-writable n q d =
+      let g = d .format in
+      let S : Shape = shape g in
+      let cs : List Content = contentsOf S values xs in
+      let said = contents-said g (d .known) in
       let serves = chosen-serves f e g (d .known) in
       let fine : Fine S e values false [] xs = judged-fine S e values false [] xs 0 (d .judged) in
       let image : List ℕ = imageOf S (entriesBytes S cs) in
-      let fits = put-fits S image out n (rw (write-puts f e xs values out g (d .known) (d .short) (d .judged) (d .required)) at q) in
+      let fits = put-fits S image out n (rw (write-puts g (d .known) (d .short) (d .judged) (d .required)) at q) in
       record {
         format = g;
         serves = serves;
@@ -200,13 +198,13 @@ module _
         fits = rw (← said, ← made-size g cs) (record { room = fits .1; total = tiny-most g (length image) (fits .0) });
       }
 
-  writable-taken : (f e : ℕ) (xs : List Field) (values out : List ℕ) → Writable f e xs values out → tellsWrite f e xs values out .number ≡ 0
-  writable-taken f e xs values out w =
+  writable-taken : Writable f e xs values out → tellsWrite f e xs values out .number ≡ 0
+  writable-taken w =
       let g = w .format in
       let S : Shape = shape g in
       let cs : List Content = contentsOf S values xs in
       let known : chosen f e ≡ Known g = serves-chosen (w .serves) in
-      let said : cs ≡ map (fieldSays f values) xs = fields-said f g values xs (chosen-stands f e g known .0) in
+      let said = contents-said g known in
       let fine : Fine S e values false [] xs =
       record {
         named = each-map (λ x h. named-names g e (x .code) h) (w .named);
@@ -219,15 +217,15 @@ module _
       let complete = among-complete cs (S .required) (rw (said, required-codes g) (w .complete)) in
       let image : List ℕ = imageOf S (entriesBytes S cs) in
       let fits : Fits g (length image) out = rw (made-size g cs, said) (w .fits) in
-      let puts = write-puts f e xs values out g known (w .short) (fine-judged S e values false [] xs 0 fine) complete in
+      let puts = write-puts g known (w .short) (fine-judged S e values false [] xs 0 fine) complete in
       rw (puts, put-fitting S image out (most-allowed g (length image) out (w .short) fits) (fits .room))
 
-  pub writing : Writing
-  writing =
-      record {
-        puts = λ f e xs values out n q. done-puts f e xs values out n (write-done f e xs values out n (counts-written f e xs values out n q));
-        taken-is = λ f e xs values out q.
-            let w = written-some f e xs values out q in
-            done-writable f e xs values out (w .0) (w .1) (write-done f e xs values out (w .0) (w .1));
-        is-taken = writable-taken;
-      }
+pub writing : Writing
+writing =
+    record {
+      puts = λ f e xs values out n q. done-puts f e xs values out n (write-done f e xs values out n (counts-written f e xs values out n q));
+      taken-is = λ f e xs values out q.
+          let w = written-some f e xs values out q in
+          done-writable f e xs values out (w .0) (w .1) (write-done f e xs values out (w .0) (w .1));
+      is-taken = writable-taken;
+    }
