@@ -25,6 +25,10 @@ each-both f none none = none
 each-both f (also p ps) (also q qs) = also (f _ p q) (each-both f ps qs)
 
 module _ {A : Type 0} {P : A → Type 0} where
+  pub each-every : (xs : List A) → ((x : A) → P x) → Each P xs
+  each-every [] f = none
+  each-every (x ∷ xs) f = also (f x) (each-every xs f)
+
   pub each-first : {x : A} {xs : List A} → Each P (x ∷ xs) → P x
   each-first (also p ps) = p
 

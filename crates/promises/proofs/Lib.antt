@@ -1,4 +1,5 @@
 pub mod Accepting
+pub mod Required
 pub mod FormatNumbers
 pub mod Refusals
 pub mod Entries
@@ -9,15 +10,16 @@ pub mod FramesAlike
 pub mod Naming
 pub mod Telling
 pub mod Unchanged
+pub mod RecordKinds
 pub mod PublishedRules
 pub mod Older
 pub mod OlderReads
 pub mod Output
 pub mod RoundTrip
+pub mod Written
+pub mod Writing
 pub mod Edits
 pub mod OlderEdits
-pub mod Required
-pub mod Written
 pub mod Listing
 pub mod EditsTaken
 pub mod EditRule
