@@ -1,7 +1,7 @@
 -- Of a value that is bytes, every number of its reading fits a word.
 -- Assumes nothing.
 use Prim.Native.Nat.{ℕ, zero, suc, _+_, _*_, _/_, _%_, _≤_, _<_}
-use mathlib.Core.List.{List, [], _∷_, _++_}
+use mathlib.Core.List.{List, [], _∷_}
 use native.Mathlib.Omega.{arith}
 use lib.ListN.{length, getD, take, drop}
 use lib.Dec.{eqb}
@@ -28,18 +28,6 @@ Words = Each (λ w. w < 4294967296)
 -- ---- parts of a list
 
 module _ {P : ℕ → Type 0} where
-  pub each-left : (xs ys : List ℕ) → Each P (xs ++ ys) → Each P xs
-  each-left [] ys ps = none
-  each-left (x ∷ xs) ys (also p ps) = also p (each-left xs ys ps)
-
-  pub each-right : (xs ys : List ℕ) → Each P (xs ++ ys) → Each P ys
-  each-right [] ys ps = ps
-  each-right (x ∷ xs) ys (also p ps) = each-right xs ys ps
-
-  pub each-append : (xs ys : List ℕ) → Each P xs → Each P ys → Each P (xs ++ ys)
-  each-append [] ys none qs = qs
-  each-append (x ∷ xs) ys (also p ps) qs = also p (each-append xs ys ps qs)
-
   pub each-take : (n : ℕ) (xs : List ℕ) → Each P xs → Each P (take n xs)
   each-take zero xs ps = none
   each-take (suc n) [] none = none

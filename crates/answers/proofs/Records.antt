@@ -23,13 +23,14 @@ use Rattle.layout.specs.Write.{word}
 use Rattle.laws.specs.Grammar.{grammar, Each, none, also}
 use Rattle.laws.proofs.Choices.{either}
 use Rattle.laws.proofs.Formats.{laws}
+use Rattle.laws.proofs.Lists.{each-left, each-right, each-append}
 use Rattle.laws.proofs.Passes.{raw-code}
 use Rattle.laws.proofs.Walking.{Frames}
 use Rattle.laws.proofs.Calls.{accepted-reading}
 use Rattle.records.specs.Words.{wordBytes, wordsBytes, readingWords, recordWords, recordBytes}
 use Rattle.answers.specs.Records.{WholeRecord, WholeRecords}
 use Rattle.answers.proofs.Entries.{Inside, held}
-use Rattle.answers.proofs.Readings.{Bytes, Words, each-left, each-right, each-append, each-take, each-part, byte-of, then, reading-words}
+use Rattle.answers.proofs.Readings.{Bytes, Words, each-take, each-part, byte-of, then, reading-words}
 
 -- ---- words in bytes
 

@@ -110,6 +110,7 @@ fboss-laws =
             not250 = λ q. false-true (rw q at named);
           });
       opening-long = λ c key k. omega (arith, ap length (k refl));
+      opening-shortest = λ c key l bytes o. omega (arith, ap length (o .is));
       lens-made = λ c n r l. refl;
       lens-shortest = λ c n l bytes says. omega (arith, ap length says);
       key-made = λ c key r. r;

@@ -75,6 +75,8 @@ pub record Laws (S : Shape) (G : Grammar) : Type 1 where
   -- what is written
   pub opening-made : (e c : ℕ) (key : List ℕ) → names S e c ≡ true → length key ≤ limit → (S .keyed ≡ false → key ≡ []) → G .Opening (S .opening c key) c key
   pub opening-long : (c : ℕ) (key : List ℕ) → (S .keyed ≡ false → key ≡ []) → length key ≤ length (S .opening c key)
+  -- no bytes open an entry shorter, or say a length shorter
+  pub opening-shortest : (c : ℕ) (key l : List ℕ) → Each (λ b. b < 256) l → G .Opening l c key → length (S .opening c key) ≤ length l
   pub lens-made : (c n : ℕ) → S .lengthRule c n ≡ true → n ≤ limit → G .Says c (S .lens c n) n
   pub lens-shortest : (c n : ℕ) (l : List ℕ) → Each (λ b. b < 256) l → G .Says c l n → length (S .lens c n) ≤ length l
   pub key-made : (c : ℕ) (key : List ℕ) → S .writerKey c key ≡ true → S .readerKey c key ≡ true

@@ -14,11 +14,8 @@ use Rattle.layout.specs.Walk.{Raw, Content, content, labelOf}
 use Rattle.layout.specs.Read.{same, seenBefore, readerRule, fault, Judged, fine, faulty, orElse, judge}
 use Rattle.laws.specs.Contents.{valued, replaced}
 use Rattle.laws.specs.Grammar.{Ruled, New, Each, none, also, Lawful, noMore, andThen}
+use Rattle.laws.proofs.Lists.{each-map, each-every}
 use Rattle.laws.proofs.Choices.{false-true, both}
-
-pub each-map : {A : Type 0} {P Q : A → Type 0} {xs : List A} → ((x : A) → P x → Q x) → Each P xs → Each Q xs
-each-map f none = none
-each-map f (also p ps) = also (f _ p) (each-map f ps)
 
 -- not seen before: no label seen is the same
 pub unseen : (S : Shape) (a : Label) (seen : List Label) → seenBefore S seen a ≡ false → Each (λ b. same S a b ≡ false) seen
@@ -43,11 +40,7 @@ fault-none S e seen c q = go (names S e (c .code)) (readerRule S c) (seenBefore 
   where
     go : (t u v : Bool) → names S e (c .code) ≡ t → readerRule S c ≡ u → seenBefore S seen (labelOf c) ≡ v →
         if {A = ℕ} t (λ _. if u (λ _. if v (λ _. 8) (λ _. 0)) (λ _. 7)) (λ _. 0) ≡ 0 → Ruled S e c × Each (New S e c) seen
-    go false u v n r s q = (λ m. false-true (sym n ∙ m), unnamed seen)
-      where
-        unnamed : (bs : List Label) → Each (New S e c) bs
-        unnamed [] = none
-        unnamed (b ∷ bs) = also (λ m. false-true (sym n ∙ m)) (unnamed bs)
+    go false u v n r s q = (λ m. false-true (sym n ∙ m), each-every seen (λ b m. false-true (sym n ∙ m)))
     go true false v n r s q = absurd (omega arith)
     go true true true n r s q = absurd (omega arith)
     go true true false n r s q = (λ m. r, each-map (λ b x m. x) (unseen S (labelOf c) seen s))

@@ -1,14 +1,48 @@
--- What is known of a list of bytes from tests of its bytes.
+-- What is known of a list of bytes from tests of its bytes, and of each item of a list from its parts.
 -- Assumes nothing.
 use Prim.Native.Nat.{ℕ, suc, _<_}
 use mathlib.Core.Path.{_≡_}
-use mathlib.Core.List.{List, _∷_}
+use mathlib.Core.List.{List, [], _∷_, _++_}
 use mathlib.Core.Bool.{true}
 use lib.ListN.{length, getD, drop}
 use lib.Seq.{drop-cons}
 use lib.Dec.{eqb}
 use borrow.Author.Tests.{eqb-true}
+use Rattle.laws.specs.Grammar.{Each, none, also}
 
 -- A list goes on from a place with the byte that a test found there.
 pub byte-at : (l : List ℕ) (j b : ℕ) → j < length l → eqb (getD l j 0) b ≡ true → drop j l ≡ b ∷ drop (suc j) l
 byte-at l j b h e = rw (drop-cons l j 0 h, eqb-true (getD l j 0) b e)
+
+-- ---- what holds of each item
+
+pub each-map : {A : Type 0} {P Q : A → Type 0} {xs : List A} → ((x : A) → P x → Q x) → Each P xs → Each Q xs
+each-map f none = none
+each-map f (also p ps) = also (f _ p) (each-map f ps)
+
+pub each-both : {A : Type 0} {P Q R : A → Type 0} {xs : List A} → ((x : A) → P x → Q x → R x) → Each P xs → Each Q xs → Each R xs
+each-both f none none = none
+each-both f (also p ps) (also q qs) = also (f _ p q) (each-both f ps qs)
+
+module _ {A : Type 0} {P : A → Type 0} where
+  pub each-every : (xs : List A) → ((x : A) → P x) → Each P xs
+  each-every [] f = none
+  each-every (x ∷ xs) f = also (f x) (each-every xs f)
+
+  pub each-first : {x : A} {xs : List A} → Each P (x ∷ xs) → P x
+  each-first (also p ps) = p
+
+  pub each-rest : {x : A} {xs : List A} → Each P (x ∷ xs) → Each P xs
+  each-rest (also p ps) = ps
+
+  pub each-left : (xs ys : List A) → Each P (xs ++ ys) → Each P xs
+  each-left [] ys ps = none
+  each-left (x ∷ xs) ys (also p ps) = also p (each-left xs ys ps)
+
+  pub each-right : (xs ys : List A) → Each P (xs ++ ys) → Each P ys
+  each-right [] ys ps = ps
+  each-right (x ∷ xs) ys (also p ps) = each-right xs ys ps
+
+  pub each-append : (xs ys : List A) → Each P xs → Each P ys → Each P (xs ++ ys)
+  each-append [] ys none qs = qs
+  each-append (x ∷ xs) ys (also p ps) qs = also p (each-append xs ys ps qs)

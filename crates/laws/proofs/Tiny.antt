@@ -110,6 +110,7 @@ tiny-laws =
       vlen-complete = reads;
       opening-made = λ e c key named l k. rw (k refl) (record { is = refl; keyless = refl; not0 = λ q. false-true (rw q at named) });
       opening-long = λ c key k. omega (arith, ap length (k refl));
+      opening-shortest = λ c key l bytes o. omega (arith, ap length (o .is));
       lens-made = λ c n rule l.
           either (λ bytes. TinySays c bytes n) (ltb c 16)
           (λ low. inl (ltb-true c 16 low, refl))

@@ -1,6 +1,6 @@
 -- VPD 2.0 meets the laws of a format.
 -- Assumes nothing.
-use Prim.Native.Nat.{ℕ, suc, _+_, _-_, _≤_}
+use Prim.Native.Nat.{ℕ, suc, _+_, _-_, _≤_, _<_}
 use mathlib.Core.Path.{_≡_, refl, ap, sym}
 use mathlib.Core.List.{List, [], _∷_, _++_, append-assoc}
 use mathlib.Core.Logic.{_⊎_, inl, inr, ⊎-elim}
@@ -17,8 +17,9 @@ use Rattle.layout.specs.declared.Length.the-variants.{Reads, Fails}
 use Rattle.layout.specs.Bytes.{if, between, part}
 use Rattle.layout.specs.Editions.{names, sinceIn}
 use Rattle.layout.specs.Vpd.{vpd, vpdHead, keyedHead, groups, vpdReaderKey, vpdWriterKey, shortest}
-use Rattle.laws.specs.Grammar.{vpdGrammar, VpdOpening}
+use Rattle.laws.specs.Grammar.{vpdGrammar, VpdOpening, Each, also}
 use Rattle.laws.proofs.Format.{headFrom, Begins, Wholly, Laws}
+use Rattle.laws.proofs.Lists.{each-left}
 use Rattle.laws.proofs.LengthBytes.{Said, groups-sound, groups-complete, shortest-says, shortest-least}
 
 -- a code that opens an entry
@@ -113,6 +114,15 @@ named e c h = go (between 0x01 0x01 c) (between 0xFE 0xFE c) refl refl
     go false true e₀ e₁ = inr (between-same 0xFE c e₁)
     go false false e₀ e₁ = absurd (false≢true (rw (e₀, e₁) at h))
 
+-- no bytes open an entry shorter than with the shortest length of its key
+opening-least : (c : ℕ) (key l : List ℕ) → Each (λ b. b < 256) l → VpdOpening l c key → suc (length (shortest (length key) ++ key)) ≤ length l
+opening-least c key l bytes o =
+    let least = go (rw (o .is) at bytes) in
+    omega (arith, ap length (o .is), length-append (shortest (length key)) key, length-append (o .lens) key)
+  where
+    go : Each (λ b. b < 256) (c ∷ (o .lens ++ key)) → length (shortest (length key)) ≤ length (o .lens)
+    go (also b bs) = shortest-least (each-left (o .lens) key bs) (o .says)
+
 -- VPD 2.0 reads exactly what its grammar writes, and writes what it reads
 pub vpd-laws : Laws vpd vpdGrammar
 unfolding vpd part vpdReaderKey vpdWriterKey
@@ -131,6 +141,7 @@ vpd-laws =
       vlen-complete = λ a lens t h v e says. groups-complete says (h .at) a t e;
       opening-made = λ e c key h le bare. record { lens = _; is = refl; says = shortest-says (length key); typed = named e c h };
       opening-long = λ c key bare. omega (arith, length-append (shortest (length key)) key);
+      opening-shortest = opening-least;
       lens-made = λ c n h le. shortest-says n;
       lens-shortest = λ c n l bytes says. shortest-least bytes says;
       key-made = λ c key h. h;

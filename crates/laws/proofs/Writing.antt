@@ -13,11 +13,12 @@ use Rattle.layout.specs.Editions.{names}
 use Rattle.layout.specs.Walk.{Raw, Content, content, labelOf, flat}
 use Rattle.layout.specs.Read.{limit, same, seenBefore, readerRule, Judged, fine, faulty, orElse, complete, codesOf}
 use Rattle.layout.specs.Write.{fieldKey, partsInside, fieldContent, writerRule, fieldFault, judgeFields, contentsOf, contentCodes, entryBytes, entriesBytes, body, imageOf}
-use Rattle.laws.specs.Grammar.{Grammar, Each, Lawful, noMore, andThen}
+use Rattle.laws.specs.Grammar.{Grammar, Each, none, also, Lawful, noMore, andThen}
 use Rattle.laws.proofs.Format.{Laws}
 use Rattle.laws.proofs.Frames.{IsRaw, frameFrom, raw-content}
 use Rattle.laws.proofs.Walking.{Frames}
-use Rattle.laws.proofs.Judging.{or-fine, each-map, unseen}
+use Rattle.laws.proofs.Lists.{each-first, each-rest, each-map, each-both, each-left, each-right, each-append}
+use Rattle.laws.proofs.Judging.{or-fine, unseen, each-unseen}
 use Rattle.laws.proofs.Choices.{false-true, both}
 use Rattle.laws.proofs.Images.{imageFrom}
 
@@ -51,25 +52,99 @@ keyless true x values e = false-true (sym e)
 keyless false x values e = refl
 
 -- a field of which nothing is wrong
-pub record Good (S : Shape) (e : ℕ) (shut : Bool) (seen : List Label) (c : Content) : Type 0 where
+pub record Good (S : Shape) (e : ℕ) (values : List ℕ) (shut : Bool) (seen : List Label) (x : Field) : Type 0 where
+  pub named : names S e (x .code) ≡ true
+  pub inside : partsInside (S .keyed) x values ≡ true
   pub unshut : shut ≡ false
-  pub named : names S e (c .code) ≡ true
-  pub ruled : writerRule S c ≡ true
-  pub new : seenBefore S seen (labelOf c) ≡ false
+  pub ruled : writerRule S (fieldContent S values x) ≡ true
+  pub new : seenBefore S seen (labelOf (fieldContent S values x)) ≡ false
 
-field-good : (S : Shape) (e : ℕ) (values : List ℕ) (b : Bool) (seen : List Label) (x : Field) → fieldFault S e values b seen x ≡ 0 → Good S e b seen (fieldContent S values x)
-unfolding fieldFault
-field-good S e values b seen x q =
-    go (names S e (x .code)) (partsInside (S .keyed) x values) b (writerRule S (fieldContent S values x)) (seenBefore S seen (labelOf (fieldContent S values x))) refl refl refl refl q
-  where
-    go : (t u w y z : Bool) → names S e (x .code) ≡ t → b ≡ w → writerRule S (fieldContent S values x) ≡ y → seenBefore S seen (labelOf (fieldContent S values x)) ≡ z →
-        if {A = ℕ} t (λ _. if u (λ _. if w (λ _. 9) (λ _. if y (λ _. if z (λ _. 8) (λ _. 0)) (λ _. 7))) (λ _. 13)) (λ _. 14) ≡ 0 → Good S e b seen (fieldContent S values x)
-    go false u w y z e₁ e₂ e₃ e₄ q = absurd (omega arith)
-    go true false w y z e₁ e₂ e₃ e₄ q = absurd (omega arith)
-    go true true true y z e₁ e₂ e₃ e₄ q = absurd (omega arith)
-    go true true false false z e₁ e₂ e₃ e₄ q = absurd (omega arith)
-    go true true false true true e₁ e₂ e₃ e₄ q = absurd (omega arith)
-    go true true false true false e₁ e₂ e₃ e₄ q = record { unshut = e₂; named = e₁; ruled = e₃; new = e₄ }
+module _ (S : Shape) (e : ℕ) (values : List ℕ) (b : Bool) (seen : List Label) (x : Field) where
+  field-good : fieldFault S e values b seen x ≡ 0 → Good S e values b seen x
+  unfolding fieldFault
+  field-good q =
+      go (names S e (x .code)) (partsInside (S .keyed) x values) b (writerRule S (fieldContent S values x)) (seenBefore S seen (labelOf (fieldContent S values x))) refl refl refl refl refl q
+    where
+      go : (t u w y z : Bool) → names S e (x .code) ≡ t → partsInside (S .keyed) x values ≡ u → b ≡ w → writerRule S (fieldContent S values x) ≡ y →
+          seenBefore S seen (labelOf (fieldContent S values x)) ≡ z →
+          if {A = ℕ} t (λ _. if u (λ _. if w (λ _. 9) (λ _. if y (λ _. if z (λ _. 8) (λ _. 0)) (λ _. 7))) (λ _. 13)) (λ _. 14) ≡ 0 → Good S e values b seen x
+      go false u w y z e₁ e₂ e₃ e₄ e₅ q = absurd (omega arith)
+      go true false w y z e₁ e₂ e₃ e₄ e₅ q = absurd (omega arith)
+      go true true true y z e₁ e₂ e₃ e₄ e₅ q = absurd (omega arith)
+      go true true false false z e₁ e₂ e₃ e₄ e₅ q = absurd (omega arith)
+      go true true false true true e₁ e₂ e₃ e₄ e₅ q = absurd (omega arith)
+      go true true false true false e₁ e₂ e₃ e₄ e₅ q = record { named = e₁; inside = e₂; unshut = e₃; ruled = e₄; new = e₅ }
+
+  good-field : Good S e values b seen x → fieldFault S e values b seen x ≡ 0
+  unfolding fieldFault
+  good-field g = rw (g .named, g .inside, g .unshut, g .ruled, g .new)
+
+-- ---- fields that are judged fine
+
+-- none of these entries comes again
+abbrev pub Single : Shape → List Content → Type 0
+Single S [] = Unit {0}
+Single S (c ∷ cs) = Each (λ d. same S (labelOf d) (labelOf c) ≡ false) cs × Single S cs
+
+-- none follows one that none may follow. `shut`: the entry before was such a one
+abbrev pub Follow : Shape → Bool → List Content → Type 0
+Follow S shut [] = Unit {0}
+Follow S shut (c ∷ cs) = (shut ≡ false) × Follow S (S .last (c .code)) cs
+
+-- none of these entries was seen before
+abbrev pub Unseen : Shape → List Label → List Content → Type 0
+Unseen S seen cs = Each (λ c. Each (λ s. same S (labelOf c) s ≡ false) seen) cs
+
+-- each field is named, lies inside, follows what it may, meets its rule and comes once
+pub record Fine (S : Shape) (e : ℕ) (values : List ℕ) (shut : Bool) (seen : List Label) (xs : List Field) : Type 0 where
+  pub named : Each (λ x. names S e (x .code) ≡ true) xs
+  pub inside : Each (λ x. partsInside (S .keyed) x values ≡ true) xs
+  pub follow : Follow S shut (contentsOf S values xs)
+  pub ruled : Each (λ c. writerRule S c ≡ true) (contentsOf S values xs)
+  pub single : Single S (contentsOf S values xs)
+  pub unseen : Unseen S seen (contentsOf S values xs)
+
+module _ (S : Shape) (e : ℕ) (values : List ℕ) where
+  pub judged-fine : (b : Bool) (seen : List Label) (xs : List Field) (i : ℕ) → judgeFields S e values b seen xs i ≡ fine → Fine S e values b seen xs
+  unfolding judgeFields
+  judged-fine b seen [] i h = record { named = none; inside = none; follow = tt; ruled = none; single = tt; unseen = none }
+  judged-fine b seen (x ∷ xs) i h =
+      let c : Content = fieldContent S values x in
+      let k = or-fine (fieldFault S e values b seen x) i (λ _. judgeFields S e values (S .last (x .code)) (seen ++ (labelOf c ∷ [])) xs (i + 1)) h in
+      let g = field-good S e values b seen x (k .0) in
+      let r = judged-fine (S .last (x .code)) (seen ++ (labelOf c ∷ [])) xs (i + 1) (k .1) in
+      record {
+        named = also (g .named) (r .named);
+        inside = also (g .inside) (r .inside);
+        follow = (g .unshut, r .follow);
+        ruled = also (g .ruled) (r .ruled);
+        single = (each-map (λ d n. each-first (each-right seen (labelOf c ∷ []) n)) (r .unseen), r .single);
+        unseen = also (unseen S (labelOf c) seen (g .new)) (each-map (λ d n. each-left seen (labelOf c ∷ []) n) (r .unseen));
+      }
+
+  pub fine-judged : (b : Bool) (seen : List Label) (xs : List Field) (i : ℕ) → Fine S e values b seen xs → judgeFields S e values b seen xs i ≡ fine
+  unfolding judgeFields
+  fine-judged b seen [] i f = refl
+  fine-judged b seen (x ∷ xs) i f =
+      let c : Content = fieldContent S values x in
+      let g : Good S e values b seen x =
+      record {
+        named = each-first (f .named);
+        inside = each-first (f .inside);
+        unshut = f .follow .0;
+        ruled = each-first (f .ruled);
+        new = each-unseen S (labelOf c) seen (each-first (f .unseen));
+      } in
+      let r : Fine S e values (S .last (x .code)) (seen ++ (labelOf c ∷ [])) xs =
+      record {
+        named = each-rest (f .named);
+        inside = each-rest (f .inside);
+        follow = f .follow .1;
+        ruled = each-rest (f .ruled);
+        single = f .single .1;
+        unseen = each-both (λ d n m. each-append seen (labelOf c ∷ []) n (also m none)) (each-rest (f .unseen)) (f .single .0);
+      } in
+      rw (good-field S e values b seen x g) (fine-judged (S .last (x .code)) (seen ++ (labelOf c ∷ [])) xs (i + 1) r)
 
 -- the parts of the writer's rule
 pub writer-parts : (S : Shape) (c : Content) → writerRule S c ≡ true →
@@ -93,11 +168,20 @@ module _ {S : Shape} {G : Grammar} (L : Laws S G) where
   fields-fine e values b seen (x ∷ xs) i h =
       let c : Content = fieldContent S values x in
       let k = or-fine (fieldFault S e values b seen x) i (λ _. judgeFields S e values (S .last (x .code)) (seen ++ (labelOf c ∷ [])) xs (i + 1)) h in
-      let g : Good S e b seen c = field-good S e values b seen x (k .0) in
+      let g : Good S e values b seen x = field-good S e values b seen x (k .0) in
       let r = fields-fine e values (S .last (x .code)) (seen ++ (labelOf c ∷ [])) xs (i + 1) (k .1) in (
         (g .unshut, g .named, g .ruled, keyless (S .keyed) x values, r .0),
         andThen (λ m. reader-rule c (g .ruled)) (each-map (λ d y m. y) (unseen S (labelOf c) seen (g .new))) (r .1),
       )
+
+  -- a new entry that fits an image has no key and no value that does not
+  pub fresh-fits : (c : Content) → (S .keyed ≡ false → c .key ≡ []) → length (entryBytes S c) ≤ limit → (length (c .key) ≤ limit) × (length (c .value) ≤ limit)
+  unfolding entryBytes
+  fresh-fits c k short =
+      let o : List ℕ = S .opening (c .code) (c .key) in
+      let l : List ℕ = S .lens (c .code) (length (c .value)) in
+      let long : length (o ++ (l ++ c .value)) ≡ length o + (length l + length (c .value)) = simp length-append refl in
+      (omega (arith, L .opening-long (c .code) (c .key) k), omega arith)
 
   -- a new entry is an entry of the grammar, and says what it was made of
   fresh-raw : (e : ℕ) (c : Content) → names S e (c .code) ≡ true → writerRule S c ≡ true → (S .keyed ≡ false → c .key ≡ []) → length (entryBytes S c) ≤ limit →
@@ -106,7 +190,7 @@ module _ {S : Shape} {G : Grammar} (L : Laws S G) where
   fresh-raw e c n w k short =
       let o : List ℕ = S .opening (c .code) (c .key) in
       let l : List ℕ = S .lens (c .code) (length (c .value)) in
-      let long : length (o ++ (l ++ c .value)) ≡ length o + (length l + length (c .value)) = simp length-append refl in
+      let fits = fresh-fits c k short in
       let i : IsRaw G (fresh S c) =
       record {
         front = o;
@@ -115,8 +199,8 @@ module _ {S : Shape} {G : Grammar} (L : Laws S G) where
         key = c .key;
         value = c .value;
         is = refl;
-        opens = L .opening-made e (c .code) (c .key) n (omega (arith, L .opening-long (c .code) (c .key) k)) k;
-        says = L .lens-made (c .code) (length (c .value)) (writer-parts S c w .1) (omega arith);
+        opens = L .opening-made e (c .code) (c .key) n (fits .0) k;
+        says = L .lens-made (c .code) (length (c .value)) (writer-parts S c w .1) (fits .1);
         framed = refl;
       } in
       (i, raw-content L (fresh S c) i)

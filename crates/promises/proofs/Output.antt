@@ -8,7 +8,7 @@ use native.Mathlib.Omega.{arith}
 use lib.ListN.{length, take, replicate, length-append, length-replicate}
 use lib.Seq.{take-at}
 use lib.Dec.{leb}
-use borrow.Author.Tests.{leb-true}
+use borrow.Author.Tests.{leb-true, le-leb}
 use Rattle.layout.specs.declared.Format.{Format}
 use Rattle.layout.specs.declared.Refusal.{Refusal}
 use Rattle.layout.specs.declared.Chosen.the-variants.{Known}
@@ -43,17 +43,31 @@ pub record Took (image out : List ℕ) (m : ℕ) (memory : List ℕ) : Type 0 wh
   pub fits : length image ≤ length out
   pub padding : memory ≡ image ++ replicate (length out - m) 0xFF
 
-pub put-took : (S : Shape) (image out : List ℕ) (m : ℕ) → put S image out .answer ≡ Wrote m → Took image out m (put S image out .memory)
+-- an image that was put is no longer than its format allows, and fits the output
+pub put-fits : (S : Shape) (image out : List ℕ) (m : ℕ) → put S image out .answer ≡ Wrote m → (length image ≤ S .most) × (length image ≤ length out)
 unfolding put
-put-took S image out m q = go (leb (length image) (S .most) && leb (length image) (length out)) refl q
+put-fits S image out m q = go (leb (length image) (S .most) && leb (length image) (length out)) refl q
   where
     go : (b : Bool) → leb (length image) (S .most) && leb (length image) (length out) ≡ b →
         if {A = Outcome} b (λ _. record { answer = Wrote (length image); memory = padded image (length out) }) (λ _. refuse (refusal 12 0) out) .answer ≡ Wrote m →
-        Took image out m (if {A = Outcome} b (λ _. record { answer = Wrote (length image); memory = padded image (length out) }) (λ _. refuse (refusal 12 0) out) .memory)
+        (length image ≤ S .most) × (length image ≤ length out)
     go true t q =
-        let e : m ≡ length image = cc in
-        record { long = e; fits = leb-true (length image) (length out) (both (leb (length image) (S .most)) (leb (length image) (length out)) t .1); padding = rw e }
+        let both = both (leb (length image) (S .most)) (leb (length image) (length out)) t in
+        (leb-true (length image) (S .most) (both .0), leb-true (length image) (length out) (both .1))
     go false t q = never-unwritten q
+
+-- an image that does is put
+pub put-fitting : (S : Shape) (image out : List ℕ) → length image ≤ S .most → length image ≤ length out →
+    put S image out ≡ record { answer = Wrote (length image); memory = padded image (length out) }
+unfolding put
+put-fitting S image out allowed fits = rw (le-leb (length image) (S .most) allowed, le-leb (length image) (length out) fits)
+
+pub put-took : (S : Shape) (image out : List ℕ) (m : ℕ) → put S image out .answer ≡ Wrote m → Took image out m (put S image out .memory)
+put-took S image out m q =
+    let fits = put-fits S image out m q in
+    let is = put-fitting S image out (fits .0) (fits .1) in
+    let long : m ≡ length image = cc in
+    record { long = long; fits = fits .1; padding = rw (is, long) }
 
 -- an output that took the image of lawful and complete entries is read as those, whole and up to the length given
 pub took-reads : (f e : ℕ) (g : Format) (rs : List Raw) (out : List ℕ) (m : ℕ) (memory : List ℕ) → chosen f e ≡ Known g → Frames (shape g) (grammar g) false rs →

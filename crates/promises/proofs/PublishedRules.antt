@@ -1,64 +1,27 @@
 -- Promise 1 holds.
 -- Assumes nothing.
-use Prim.Native.Nat.{ℕ, zero, suc, _+_, _≤_}
-use mathlib.Core.Path.{_≡_, refl, ap, ap₂, sym, _∙_}
+use Prim.Native.Nat.{ℕ}
+use mathlib.Core.Path.{_≡_, refl, ap, ap₂}
 use mathlib.Core.List.{List, [], _∷_, _++_, map}
-use mathlib.Core.Bool.{Bool, true, false}
+use mathlib.Core.Bool.{Bool, false}
 use lib.ListN.{length}
-use lib.Dec.{eqb}
-use borrow.Author.Tests.{eqb-true, eq-eqb}
 use Rattle.layout.specs.declared.Format.{Format}
 use Rattle.layout.specs.declared.Chosen.the-variants.{Known}
-use Rattle.layout.specs.declared.Checked.the-variants.{Accepted}
-use Rattle.layout.specs.Bytes.{if, oneOf}
 use Rattle.layout.specs.Shape.{Shape}
 use Rattle.layout.specs.Editions.{shape, chosen}
 use Rattle.layout.specs.Walk.{Raw, Content, content, flat}
-use Rattle.layout.specs.Read.{codesOf, complete}
-use Rattle.layout.specs.Calls.{checkImage}
-use Rattle.laws.specs.Grammar.{Grammar, grammar, EntryOf, Entries, noEntry, entry, Each, none, also, Among, first, later, Published}
-use Rattle.laws.proofs.Choices.{false-true, both}
+use Rattle.laws.specs.Grammar.{Grammar, grammar, EntryOf, Entries, noEntry, entry, Published}
 use Rattle.laws.proofs.Format.{Laws}
 use Rattle.laws.proofs.Frames.{IsRaw, frameFrom, raw-content}
 use Rattle.laws.proofs.Walking.{Frames}
 use Rattle.laws.proofs.Formats.{laws}
-use Rattle.laws.proofs.Images.{Accepts, imageFrom}
-use Rattle.laws.proofs.Calls.{Reading, Found, check-found, accepted-reading, made-reading}
+use Rattle.laws.proofs.Images.{imageFrom}
+use Rattle.laws.proofs.Calls.{Found, check-found, accepted-reading, made-reading}
 use Rattle.promises.specs.Words.{Reads}
 use Rattle.promises.specs.PublishedRules.{OfGrammar, PublishedRules}
+use Rattle.promises.proofs.Required.{said-codes, complete-among, among-complete}
 use Rattle.promises.proofs.Accepting.{reads}
-
--- ---- required codes
-
--- a code that is found is among the entries, and the other way round
-found-among : (c : ℕ) (rs : List Raw) → oneOf (codesOf rs) c ≡ true → Among c (map content rs)
-unfolding oneOf content
-found-among c [] h = false-true h
-found-among c (r ∷ rs) h = go (eqb c (r .frame .code)) refl h (found-among c rs)
-  where
-    go : (b : Bool) → eqb c (r .frame .code) ≡ b → if b (λ _. true) (λ _. oneOf (codesOf rs) c) ≡ true → (oneOf (codesOf rs) c ≡ true → Among c (map content rs)) →
-        Among c (content r ∷ map content rs)
-    go true e h rest = first (sym (eqb-true c (r .frame .code) e))
-    go false e h rest = later (rest h)
-
-among-found : (c : ℕ) (rs : List Raw) → Among c (map content rs) → oneOf (codesOf rs) c ≡ true
-unfolding oneOf content
-among-found c (r ∷ rs) (first e) = rw (eq-eqb c (r .frame .code) (sym e))
-among-found c (r ∷ rs) (later a) = go (eqb c (r .frame .code)) (among-found c rs a)
-  where
-    go : (b : Bool) → oneOf (codesOf rs) c ≡ true → if b (λ _. true) (λ _. oneOf (codesOf rs) c) ≡ true
-    go true h = refl
-    go false h = h
-
-complete-among : (rs : List Raw) (cs : List ℕ) → complete cs (codesOf rs) ≡ true → Each (λ c. Among c (map content rs)) cs
-unfolding complete
-complete-among rs [] h = none
-complete-among rs (c ∷ cs) h = let b = both (oneOf (codesOf rs) c) (complete cs (codesOf rs)) h in also (found-among c rs (b .0)) (complete-among rs cs (b .1))
-
-among-complete : (rs : List Raw) (cs : List ℕ) → Each (λ c. Among c (map content rs)) cs → complete cs (codesOf rs) ≡ true
-unfolding complete
-among-complete rs [] none = refl
-among-complete rs (c ∷ cs) (also a more) = rw (among-found c rs a, among-complete rs cs more)
+use Rattle.promises.proofs.Telling.{serves-chosen, chosen-serves, counts-accepted}
 
 -- ---- entries
 
@@ -111,7 +74,7 @@ of-grammar f e image n x =
     let g = x .format in
     record {
       format = g;
-      known = r .known;
+      serves = chosen-serves f e g (r .known);
       contents = map content rs;
       published =
           record {
@@ -124,7 +87,7 @@ of-grammar f e image n x =
             closes = m .closes;
             made = frames-entries (laws g) false rs (m .frames);
             lawful = m .lawful;
-            required = complete-among rs (shape g .required) (m .required);
+            required = complete-among (map content rs) (shape g .required) (rw (said-codes rs) (m .required));
             short = r .short;
           };
       reads = reads f e image g (x .start) rs r;
@@ -136,12 +99,12 @@ is-read f e g image cs k p w =
     let S : Shape = shape g in
     let h : ℕ = length (S .header (length (flat (w .raws)))) in
     let whole : image ≡ imageFrom S (flat (w .raws)) (p .closing) (p .rest) = rw (w .flatly, ← p .headed) (p .is) in
-    let r = made-reading f e g (w .raws) (p .closing) (p .rest) k (p .closes) (w .frames) (rw (w .says) (p .lawful)) (among-complete (w .raws) (S .required) (rw (w .says) (p .required))) (rw whole at (p .short)) in
+    let r = made-reading f e g (w .raws) (p .closing) (p .rest) k (p .closes) (w .frames) (rw (w .says) (p .lawful)) (rw (← said-codes (w .raws), w .says) (among-complete cs (S .required) (p .required))) (rw whole at (p .short)) in
     rw (whole, ← w .says) (reads f e (imageFrom S (flat (w .raws)) (p .closing) (p .rest)) g h (w .raws) (accepted-reading f e (imageFrom S (flat (w .raws)) (p .closing) (p .rest)) g h (w .raws) r))
 
 pub published-rules : PublishedRules
 published-rules =
     record {
-      accepted-is = λ f e image n q. of-grammar f e image n (check-found f e image n q);
-      is-accepted = λ f e g image cs k p. is-read f e g image cs k p (entries-frames (laws g) (p .made));
+      accepted-is = λ f e image n q. of-grammar f e image n (check-found f e image n (counts-accepted f e image n q));
+      is-accepted = λ f e g image cs s p. is-read f e g image cs (serves-chosen s) p (entries-frames (laws g) (p .made));
     }

@@ -1,34 +1,35 @@
 -- Promise 3 holds.
 -- Assumes nothing.
-use Prim.Native.Nat.{ℕ, _+_, _-_, _≤_}
-use mathlib.Core.Path.{_≡_, refl, ap, ap₂, sym, _∙_}
-use mathlib.Core.List.{List, [], _∷_, _++_, map}
+use Prim.Native.Nat.{ℕ, _≤_}
+use mathlib.Core.Path.{_≡_, refl, ap₂, _∙_}
+use mathlib.Core.List.{List, [], _∷_, map}
 use mathlib.Core.Bool.{Bool, true, false}
 use native.Mathlib.Omega.{arith}
 use lib.ListN.{length, take}
-use lib.Dec.{ltb, eqb}
+use lib.Dec.{ltb}
 use borrow.Author.Tests.{ltb-false, eqb-true, ne-eqb}
 use Rattle.layout.specs.declared.Format.{Format}
 use Rattle.layout.specs.declared.Format.the-variants.{Fboss, Vpd, Tiny}
 use Rattle.layout.specs.declared.Field.{Field}
 use Rattle.layout.specs.declared.Chosen.{Chosen}
 use Rattle.layout.specs.declared.Chosen.the-variants.{Known, Unknown}
-use Rattle.layout.specs.declared.Made.the-variants.{Wrote, Unwritten}
+use Rattle.layout.specs.declared.Made.the-variants.{Wrote}
 use Rattle.layout.specs.Bytes.{if, refusal}
 use Rattle.layout.specs.Shape.{Shape}
 use Rattle.layout.specs.Fboss.{fboss}
 use Rattle.layout.specs.Vpd.{vpd}
 use Rattle.layout.specs.Tiny.{tiny}
 use Rattle.layout.specs.Editions.{shape, chosen}
-use Rattle.layout.specs.Walk.{Raw, Content, content, flat}
-use Rattle.layout.specs.Read.{limit, Judged, fine, faulty, complete, codesOf}
+use Rattle.layout.specs.Walk.{Content, content}
+use Rattle.layout.specs.Read.{limit, Judged, fine, faulty, complete}
 use Rattle.layout.specs.Write.{Outcome, refuse, judgeFields, contentsOf, contentCodes, entriesBytes, imageOf, put, fieldContent, writeJudged, writeAs, writeChosen, writeImage}
-use Rattle.laws.specs.Grammar.{grammar}
 use Rattle.laws.proofs.Writing.{fresh, fresh-flat, fields-fine, fresh-frames}
 use Rattle.laws.proofs.Formats.{laws}
 use Rattle.laws.proofs.Calls.{Stands, one, two, three, chosen-stands}
 use Rattle.promises.specs.Words.{Reads}
 use Rattle.promises.specs.RoundTrip.{fieldSays, RoundTrip}
+use Rattle.promises.proofs.Telling.{counts-written}
+use Rattle.promises.proofs.Required.{said-codes}
 use Rattle.promises.proofs.Output.{entries-shorter, Took, put-took, never-unwritten, took-reads}
 
 -- ---- what a field says
@@ -39,7 +40,7 @@ field-said f Fboss values x (one e) = rw (ne-eqb f 2 (λ q. let z = eqb-true f 1
 field-said f Vpd values x (two e₁ e₂) = rw e₂
 field-said f Tiny values x (three e₁ e₂ e₃) = rw e₂
 
-fields-said : (f : ℕ) (g : Format) (values : List ℕ) (xs : List Field) → Stands f g → contentsOf (shape g) values xs ≡ map (fieldSays f values) xs
+pub fields-said : (f : ℕ) (g : Format) (values : List ℕ) (xs : List Field) → Stands f g → contentsOf (shape g) values xs ≡ map (fieldSays f values) xs
 fields-said f g values [] s = refl
 fields-said f g values (x ∷ xs) s = ap₂ (λ (y : Content) (ys : List Content). y ∷ ys) (field-said f g values x s) (fields-said f g values xs s)
 
@@ -53,7 +54,7 @@ pub record Done (f e : ℕ) (xs : List Field) (values out : List ℕ) (n : ℕ) 
   pub required : complete (shape format .required) (contentCodes (contentsOf (shape format) values xs)) ≡ true
   pub took : Took (imageOf (shape format) (entriesBytes (shape format) (contentsOf (shape format) values xs))) out n (writeImage f e xs values out .memory)
 
-write-done : (f e : ℕ) (xs : List Field) (values out : List ℕ) (n : ℕ) → writeImage f e xs values out .answer ≡ Wrote n → Done f e xs values out n
+pub write-done : (f e : ℕ) (xs : List Field) (values out : List ℕ) (n : ℕ) → writeImage f e xs values out .answer ≡ Wrote n → Done f e xs values out n
 unfolding writeImage writeAs
 write-done f e xs values out n q = choose (chosen f e) refl q
   where
@@ -86,10 +87,12 @@ write-done f e xs values out n q = choose (chosen f e) refl q
     choose (Known g) k q = bounded g (ltb limit (length out)) k refl q
     choose (Unknown m) k q = never-unwritten q
 
-fresh-codes : (S : Shape) (cs : List Content) → codesOf (map (fresh S) cs) ≡ contentCodes cs
-unfolding fresh
-fresh-codes S [] = refl
-fresh-codes S (c ∷ cs) = ap (λ (x : List ℕ). c .code ∷ x) (fresh-codes S cs)
+-- the bytes of the entries are no more than an image's
+pub done-short : {f e : ℕ} {xs : List Field} {values out : List ℕ} {n : ℕ} (d : Done f e xs values out n) →
+    length (entriesBytes (shape (d .format)) (contentsOf (shape (d .format)) values xs)) ≤ limit
+done-short {xs} {values} d =
+    let S : Shape = shape (d .format) in
+    omega (arith, entries-shorter S (entriesBytes S (contentsOf S values xs)), d .took .fits, d .short)
 
 done-reads : (f e : ℕ) (xs : List Field) (values out : List ℕ) (n : ℕ) → Done f e xs values out n →
     Reads f e (writeImage f e xs values out .memory) (map (fieldSays f values) xs) × Reads f e (take n (writeImage f e xs values out .memory)) (map (fieldSays f values) xs)
@@ -98,12 +101,11 @@ done-reads f e xs values out n d =
     let S : Shape = shape g in
     let cs : List Content = contentsOf S values xs in
     let fine = fields-fine (laws g) e values false [] xs 0 (d .judged) in
-    let short : length (entriesBytes S cs) ≤ limit = omega (arith, entries-shorter S (entriesBytes S cs), d .took .fits, d .short) in
-    let made = fresh-frames (laws g) e false cs (fine .0) short in
+    let made = fresh-frames (laws g) e false cs (fine .0) (done-short d) in
     let took = rw (← fresh-flat S cs) at (d .took) in
     let said : map content (map (fresh S) cs) ≡ map (fieldSays f values) xs = made .1 ∙ fields-said f g values xs (chosen-stands f e g (d .known) .0) in
     rw (← said)
-    (took-reads f e g (map (fresh S) cs) out n (writeImage f e xs values out .memory) (d .known) (made .0) (rw (made .1) (fine .1)) (rw (fresh-codes S cs) (d .required)) (d .short) took)
+    (took-reads f e g (map (fresh S) cs) out n (writeImage f e xs values out .memory) (d .known) (made .0) (rw (made .1) (fine .1)) (rw (← said-codes (map (fresh S) cs), made .1) (d .required)) (d .short) took)
 
 pub round-trip : RoundTrip
-round-trip f e xs values out n q = done-reads f e xs values out n (write-done f e xs values out n q)
+round-trip f e xs values out n q = done-reads f e xs values out n (write-done f e xs values out n (counts-written f e xs values out n q))
