@@ -1,2 +1,4 @@
 pub mod Accepting
+pub mod Lookups
+pub mod Strings
 pub mod Telling
