@@ -18,11 +18,11 @@ use Rattle.laws.proofs.Calls.{accepted-reading}
 use Rattle.laws.proofs.Format.{Holds}
 use Rattle.laws.proofs.Formats.{laws}
 use Rattle.laws.proofs.Images.{Accepts}
+use Rattle.laws.proofs.Rooms.{room-inside}
 use Rattle.laws.proofs.Walking.{walk-flat}
 use Rattle.accept.specs.declared.Room.{Room as TakenRoom}
 use Rattle.accept.specs.declared.Taken.the-variants.{Is, Isnt}
 use Rattle.accept.specs.Taken.{roomEnd, takenBy, taken}
-use Rattle.accept.proofs.Taking.{room-inside}
 
 -- what is known of an image that is taken
 pub record Took (f e : ℕ) (image : List ℕ) (room : TakenRoom) : Type 0 where

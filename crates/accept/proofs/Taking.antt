@@ -3,26 +3,21 @@
 use Prim.Native.Nat.{ℕ, _+_, _-_, _≤_, _<_}
 use mathlib.Core.Path.{_≡_, refl, ap, sym, _∙_}
 use mathlib.Core.List.{List, [], _++_}
-use mathlib.Core.Bool.{Bool, true, false, _&&_}
+use mathlib.Core.Bool.{Bool, true, false}
 use native.Mathlib.Omega.{arith}
-use lib.ListN.{length, getD, length-append}
-use lib.Dec.{ltb, leb, eqb}
-use borrow.Author.Tests.{ltb-false, leb-true, lt-ltb, le-ltb}
+use lib.ListN.{length, length-append}
+use lib.Dec.{ltb}
+use borrow.Author.Tests.{lt-ltb, le-ltb}
 use Rattle.layout.specs.declared.Format.{Format}
-use Rattle.layout.specs.declared.Format.the-variants.{Fboss, Vpd, Tiny}
 use Rattle.layout.specs.declared.Chosen.the-variants.{Known, Unknown}
 use Rattle.layout.specs.declared.Opened.the-variants.{Room, Closed}
 use Rattle.layout.specs.declared.Refusal.{Refusal}
 use Rattle.layout.specs.Bytes.{if, part, refusal}
 use Rattle.layout.specs.Shape.{Shape}
-use Rattle.layout.specs.Fboss.{fboss, fbossOpened}
-use Rattle.layout.specs.Vpd.{vpd}
-use Rattle.layout.specs.Tiny.{tiny, tinyOpened}
 use Rattle.layout.specs.Editions.{shape, chosen}
 use Rattle.layout.specs.Walk.{Raw, flat, Walked, done, stop}
 use Rattle.layout.specs.Read.{sealed, checkPlace, Judged, fine, faulty, judge, complete, codesOf, Read, accepted, refused, bad, readComplete, readWalked, readAs, readImage, limit}
 use Rattle.laws.specs.Passes.{walked, IsDone, rawsIn}
-use Rattle.laws.proofs.Choices.{either, both, OnOpened}
 use Rattle.laws.proofs.Passes.{part-most}
 use Rattle.laws.proofs.Walking.{walk-decode}
 use Rattle.laws.proofs.Images.{accepted-made}
@@ -98,43 +93,7 @@ module _ (f : Format) (e : ℕ) (image : List ℕ) (start end : ℕ) where
         go fine false c h = let z : _≡_ {A = ℕ} 0 1 = cc in absurd (omega arith)
         go (faulty m r) b c h = let z : _≡_ {A = ℕ} 0 1 = cc in absurd (omega arith)
 
--- a closing has at most two bytes
-pub closing-short : (f : Format) → length (shape f .closing) ≤ 2
-unfolding fboss vpd tiny
-closing-short Fboss = omega arith
-closing-short Vpd = omega arith
-closing-short Tiny = omega arith
-
 -- ---- the whole image
-
-Inside : List ℕ → ℕ → ℕ → Type 0
-Inside image start end = (start ≤ end) × (end ≤ length image)
-
-rooms : (f : Format) (image : List ℕ) → OnOpened (Inside image) (shape f .opened image)
-unfolding fboss vpd tiny fbossOpened tinyOpened Inside
-rooms Fboss s =
-    either (OnOpened (Inside s)) (ltb (length s) 4) (λ _. tt)
-    (λ long. either (OnOpened (Inside s)) (eqb (getD s 0 0) 0xFB && eqb (getD s 1 0) 0xFB)
-    (λ _. either (OnOpened (Inside s)) (eqb (getD s 2 0) 0x05)
-    (λ _. either (OnOpened (Inside s)) (eqb (getD s 3 0) 0xFF) (λ _. (ltb-false (length s) 4 long, omega arith)) (λ _. tt))
-    (λ _. tt))
-    (λ _. tt))
-rooms Vpd s = (omega arith, omega arith)
-rooms Tiny s =
-    either (OnOpened (Inside s)) (ltb (length s) 3) (λ _. tt)
-    (λ _. either (OnOpened (Inside s)) (eqb (getD s 0 0) 0x56)
-    (λ _. either (OnOpened (Inside s)) (eqb (getD s 1 0) 0x02)
-    (λ _. either (OnOpened (Inside s)) (leb 4 (getD s 2 0) && leb (getD s 2 0) (length s))
-    (λ t. let w = both (leb 4 (getD s 2 0)) (leb (getD s 2 0) (length s)) t in
-    (omega (arith, leb-true 4 (getD s 2 0) (w .0)), omega (arith, leb-true (getD s 2 0) (length s) (w .1))))
-    (λ _. tt))
-    (λ _. tt))
-    (λ _. tt))
-
--- the room of the entries lies inside the image
-pub room-inside : (f : Format) (image : List ℕ) (start end : ℕ) → shape f .opened image ≡ Room start end → (start ≤ end) × (end ≤ length image)
-unfolding Inside
-room-inside f image start end e = rw e at (rooms f image)
 
 module _ (f e : ℕ) (image : List ℕ) where
   pub taken-unknown : (n : ℕ) → chosen f e ≡ Unknown n → taken f e image ≡ Isnt (refusal n 0)

@@ -1,8 +1,8 @@
 -- What is known of an answer that tests choose.
 -- Assumes nothing.
 use Prim.Native.Nat.{ℕ}
-use mathlib.Core.Path.{_≡_, refl}
-use mathlib.Core.Bool.{Bool, true, false, _&&_}
+use mathlib.Core.Path.{_≡_, refl, sym}
+use mathlib.Core.Bool.{Bool, true, false, _&&_, _||_}
 use native.Mathlib.Omega.{arith}
 use Rattle.layout.specs.declared.Head.{Head}
 use Rattle.layout.specs.declared.Headed.{Headed}
@@ -27,6 +27,11 @@ pub both : (a b : Bool) → (a && b) ≡ true → (a ≡ true) × (b ≡ true)
 both true true e = (refl, refl)
 both true false e = false-true e
 both false b e = false-true e
+
+-- Of two tests of which neither passes, each fails.
+pub neither : (a b : Bool) → (a || b) ≡ false → (a ≡ false) × (b ≡ false)
+neither true b e = false-true (sym e)
+neither false b e = (refl, e)
 
 -- what is said of a head that opens, and what where the entries end
 abbrev pub OnHeaded : (Head → Type 0) → Type 0 → Headed → Type 0

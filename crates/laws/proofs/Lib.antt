@@ -14,6 +14,7 @@ pub mod Names
 pub mod OneByte
 pub mod Passes
 pub mod Records
+pub mod Rooms
 pub mod Seen
 pub mod Tiny
 pub mod Vpd

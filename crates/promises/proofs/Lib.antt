@@ -1,4 +1,9 @@
 pub mod Accepting
+pub mod FormatNumbers
+pub mod Refusals
+pub mod Entries
+pub mod ReadCalls
+pub mod WriteCalls
+pub mod Telling
 pub mod Lookups
 pub mod Strings
-pub mod Telling

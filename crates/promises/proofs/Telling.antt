@@ -1,18 +1,37 @@
 -- From what a call tells to its answer, and from the words of the promises to those of the definitions.
 -- Assumes nothing.
-use Prim.Native.Nat.{ℕ, zero, suc, _+_, _≤_, _<_}
-use mathlib.Core.Path.{_≡_, refl, ap, sym, _∙_}
-use mathlib.Core.Bool.{Bool, true, false, _&&_}
+use Prim.Native.Nat.{ℕ, _≤_}
+use mathlib.Core.Path.{_≡_, refl, ap, _∙_}
+use mathlib.Core.List.{List}
+use mathlib.Core.Bool.{true}
 use native.Mathlib.Omega.{arith}
+use lib.ListN.{length}
 use lib.Dec.{leb, eqb}
 use borrow.Author.Tests.{eqb-true, leb-true, le-leb}
 use Rattle.layout.specs.declared.Format.{Format}
 use Rattle.layout.specs.declared.Format.the-variants.{Fboss, Vpd, Tiny}
+use Rattle.layout.specs.declared.Field.{Field}
+use Rattle.layout.specs.declared.Refusal.{Refusal}
 use Rattle.layout.specs.declared.Chosen.the-variants.{Known}
+use Rattle.layout.specs.declared.Checked.{Checked}
+use Rattle.layout.specs.declared.Checked.the-variants.{Accepted, Refused}
+use Rattle.layout.specs.declared.Made.{Made}
+use Rattle.layout.specs.declared.Made.the-variants.{Wrote, Unwritten}
+use Rattle.layout.specs.Bytes.{between, all, oneOf}
 use Rattle.layout.specs.Editions.{knownEdition, chosen}
+use Rattle.layout.specs.Read.{Read, accepted, refused, readImage}
+use Rattle.layout.specs.Calls.{Told, toldChecked, checkedBy, checkImage}
+use Rattle.layout.specs.Write.{Outcome, writeImage, toldMade}
+use Rattle.layout.specs.Edit.{editEntry}
 use Rattle.laws.proofs.Choices.{both}
 use Rattle.laws.proofs.Calls.{Stands, one, two, three, chosen-stands, stands-chosen}
-use Rattle.promises.specs.Words.{Numbered, fboss, vpd, tiny, KnownEdition, Serves}
+use Rattle.promises.specs.Words.{Numbered, fboss, vpd, tiny, KnownEdition, Serves, Counts, IsRefused, tellsCheck, tellsWrite, tellsEdit}
+use Rattle.promises.specs.Numbers.{imageNumbers, writeNumbers}
+use Rattle.promises.proofs.FormatNumbers.{Low, tabled}
+use Rattle.promises.proofs.Refusals.{farthest}
+use Rattle.promises.proofs.Entries.{CheckedIn}
+use Rattle.promises.proofs.ReadCalls.{checked-in}
+use Rattle.promises.proofs.WriteCalls.{MadeLow, editNumbers, edited-low, written-low}
 
 -- ---- formats and editions
 
@@ -37,3 +56,52 @@ stands-numbered f Tiny (three c d e) = rw (eqb-true f 3 e) tiny
 
 pub chosen-serves : (f e : ℕ) (g : Format) → chosen f e ≡ Known g → Serves f e g
 chosen-serves f e g q = let s = chosen-stands f e g q in record { number = stands-numbered f g (s .0); edition = known-edition e (s .1) }
+
+-- ---- check
+
+pub counts-accepted : (f e : ℕ) (image : List ℕ) (n : ℕ) → Counts (tellsCheck f e image) n → checkImage f e image ≡ Accepted n
+unfolding all
+counts-accepted f e image n q = go (checkImage f e image) (checked-in f e image) q
+  where
+    go : (x : Checked) → CheckedIn x → Counts (toldChecked x) n → x ≡ Accepted n
+    go (Accepted m) l q = ap Accepted (ap (λ (t : Told). t .count) q)
+    go (Refused r) l q = let z : r .number ≡ 0 = ap (λ (t : Told). t .number) q in absurd (omega (arith, tabled imageNumbers (r .number) refl (l .number)))
+
+pub check-refused : (f e : ℕ) (image : List ℕ) → IsRefused (tellsCheck f e image) → (r : Refusal) × (readImage f e image ≡ refused r)
+unfolding checkImage
+check-refused f e image h = go (readImage f e image) refl h
+  where
+    go : (x : Read) → readImage f e image ≡ x → IsRefused (toldChecked (checkedBy x)) → (r : Refusal) × (readImage f e image ≡ refused r)
+    go (accepted g start rs) q h = absurd (h refl)
+    go (refused r) q h = (r, q)
+
+-- ---- write and edit
+
+module _ (numbers : List ℕ) (most : ℕ) (table : all (between 1 16) numbers ≡ true) where
+  made-some : (x : Made) → MadeLow numbers most x → toldMade x .number ≡ 0 → (n : ℕ) × (x ≡ Wrote n)
+  made-some (Wrote n) l z = (n, refl)
+  made-some (Unwritten r) l z = absurd (omega (arith, tabled numbers (r .number) table (l .number)))
+
+  made-counts : (x : Made) (n : ℕ) → MadeLow numbers most x → Counts (toldMade x) n → x ≡ Wrote n
+  made-counts x n l q =
+      let w = made-some x l (ap (λ (t : Told). t .number) q) in
+      let c : toldMade (Wrote (w .0)) .count ≡ n = rw (w .1) at (ap (λ (t : Told). t .count) q) in
+      w .1 ∙ ap Wrote c
+
+module _ (f e : ℕ) (fields : List Field) (values out : List ℕ) where
+  pub written-some : tellsWrite f e fields values out .number ≡ 0 → (n : ℕ) × (writeImage f e fields values out .answer ≡ Wrote n)
+  unfolding all
+  written-some z = made-some writeNumbers (length fields) refl (writeImage f e fields values out .answer) (written-low f e fields values out) z
+
+  pub counts-written : (n : ℕ) → Counts (tellsWrite f e fields values out) n → writeImage f e fields values out .answer ≡ Wrote n
+  unfolding all
+  counts-written n q = made-counts writeNumbers (length fields) refl (writeImage f e fields values out .answer) n (written-low f e fields values out) q
+
+module _ (f e : ℕ) (image : List ℕ) (i : ℕ) (v out : List ℕ) where
+  pub edited-some : tellsEdit f e image i v out .number ≡ 0 → (m : ℕ) × (editEntry f e image i v out .answer ≡ Wrote m)
+  unfolding all
+  edited-some z = made-some editNumbers farthest refl (editEntry f e image i v out .answer) (edited-low f e image i v out) z
+
+  pub counts-edited : (m : ℕ) → Counts (tellsEdit f e image i v out) m → editEntry f e image i v out .answer ≡ Wrote m
+  unfolding all
+  counts-edited m q = made-counts editNumbers farthest refl (editEntry f e image i v out .answer) m (edited-low f e image i v out) q

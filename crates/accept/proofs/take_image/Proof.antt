@@ -5,7 +5,8 @@ use mathlib.Core.Path.{_≡_, refl, ap, sym, _∙_}
 use native.Mathlib.Omega.{arith}
 use borrow.Author.Needs.{needs}
 use denote.Ref.{now}
-use Rattle.accept.proofs.Taking.{room-inside, taken-unknown, taken-long, taken-closed, taken-room}
+use Rattle.laws.proofs.Rooms.{room-inside}
+use Rattle.accept.proofs.Taking.{taken-unknown, taken-long, taken-closed, taken-room}
 use Rattle.accept.proofs.take_image.Statement.{statement}
 use Rattle.accept.proofs.take_image.Tie as tie
 

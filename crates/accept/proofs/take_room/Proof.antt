@@ -7,8 +7,9 @@ use borrow.Author.Needs.{needs}
 use borrow.Author.Tests.{not-true, not-false}
 use denote.Ref.{now}
 use Rattle.layout.specs.Bytes.{refusal}
+use Rattle.laws.proofs.Rooms.{closing-short}
 use Rattle.accept.specs.declared.Taken.the-variants.{Is, Isnt}
-use Rattle.accept.proofs.Taking.{ends-done, room-stops, room-unsealed, room-faulty, room-fine, closing-short}
+use Rattle.accept.proofs.Taking.{ends-done, room-stops, room-unsealed, room-faulty, room-fine}
 use Rattle.accept.proofs.take_room.Statement.{statement}
 use Rattle.accept.proofs.take_room.Tie as tie
 

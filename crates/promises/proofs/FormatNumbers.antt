@@ -1,0 +1,170 @@
+-- Every number that a format gives is one of an image's own: for an entry's head, for its length, for the image's header.
+-- Assumes nothing.
+use Prim.Native.Nat.{ℕ, zero, suc, _+_, _*_, _-_, _≤_}
+use mathlib.Core.Path.{_≡_, refl}
+use mathlib.Core.List.{List, [], _∷_}
+use mathlib.Core.Bool.{Bool, true, false, _&&_}
+use native.Mathlib.Omega.{arith}
+use lib.ListN.{length, getD}
+use lib.Dec.{ltb, leb, eqb}
+use borrow.Author.Tests.{eqb-true, leb-true}
+use Rattle.layout.specs.declared.Format.{Format}
+use Rattle.layout.specs.declared.Format.the-variants.{Fboss, Vpd, Tiny}
+use Rattle.layout.specs.declared.Chosen.{Chosen}
+use Rattle.layout.specs.declared.Chosen.the-variants.{Known, Unknown}
+use Rattle.layout.specs.declared.Head.{Head}
+use Rattle.layout.specs.declared.Headed.{Headed}
+use Rattle.layout.specs.declared.Headed.the-variants.{Opens, Ends, Wrong}
+use Rattle.layout.specs.declared.Length.{Length}
+use Rattle.layout.specs.declared.Length.the-variants.{Reads, Fails}
+use Rattle.layout.specs.declared.Next.{Next}
+use Rattle.layout.specs.declared.Next.the-variants.{Framed, Ended, Broken}
+use Rattle.layout.specs.declared.Opened.{Opened}
+use Rattle.layout.specs.declared.Opened.the-variants.{Room, Closed}
+use Rattle.layout.specs.Bytes.{if, between, all, oneOf}
+use Rattle.layout.specs.Shape.{byteLength, onLength, onHead, next}
+use Rattle.layout.specs.Fboss.{fboss, fbossOpened, fbossHead}
+use Rattle.layout.specs.Vpd.{vpd, groups, keyedHead, vpdHead}
+use Rattle.layout.specs.Tiny.{tiny, tinyOpened, tinyHead, tinyLength}
+use Rattle.layout.specs.Editions.{shape, knownEdition, withEdition, chosen}
+use Rattle.laws.proofs.Choices.{false-true, either, both}
+use Rattle.promises.specs.Numbers.{imageNumbers}
+
+-- one of these numbers, and a place that is not beyond `most`
+pub record Low (numbers : List ℕ) (most n p : ℕ) : Type 0 where
+  pub number : oneOf numbers n ≡ true
+  pub place : p ≤ most
+
+-- a number of a list that has none but 1 to 16 is one of those: never the 0 of an answer that is not refused
+pub tabled : (numbers : List ℕ) (n : ℕ) → all (between 1 16) numbers ≡ true → oneOf numbers n ≡ true → (1 ≤ n) × (n ≤ 16)
+unfolding all oneOf
+tabled [] n a h = false-true h
+tabled (x ∷ xs) n a h =
+    let b = both (between 1 16 x) (all (between 1 16) xs) a in
+    let c = both (leb 1 x) (leb x 16) (b .0) in
+    go (eqb n x) refl h (leb-true 1 x (c .0), leb-true x 16 (c .1)) (tabled xs n (b .1))
+  where
+    go : (t : Bool) → eqb n x ≡ t → if t (λ _. true) (λ _. oneOf xs n) ≡ true → (1 ≤ x) × (x ≤ 16) → (oneOf xs n ≡ true → (1 ≤ n) × (n ≤ 16)) → (1 ≤ n) × (n ≤ 16)
+    go true e h i rest = rw (eqb-true n x e) i
+    go false e h i rest = rest h
+
+abbrev HeadNumber : Headed → Type 0
+HeadNumber (Opens h) = Unit {0}
+HeadNumber Ends = Unit {0}
+HeadNumber (Wrong n) = oneOf imageNumbers n ≡ true
+
+abbrev LengthNumber : Length → Type 0
+LengthNumber (Reads v j) = Unit {0}
+LengthNumber (Fails n) = oneOf imageNumbers n ≡ true
+
+abbrev pub NextNumber : Next → Type 0
+NextNumber (Framed f) = Unit {0}
+NextNumber Ended = Unit {0}
+NextNumber (Broken n) = oneOf imageNumbers n ≡ true
+
+-- the place of a header that is refused is one of its own
+abbrev pub OpenedLow : Opened → Type 0
+OpenedLow (Room start end) = Unit {0}
+OpenedLow (Closed r) = Low imageNumbers 4 (r .number) (r .place .0)
+
+abbrev pub ChosenNumber : List ℕ → Chosen → Type 0
+ChosenNumber numbers (Known f) = Unit {0}
+ChosenNumber numbers (Unknown n) = oneOf numbers n ≡ true
+
+-- ---- lengths
+
+byte-number : (h : Head) (s : List ℕ) → LengthNumber (byteLength h s)
+unfolding oneOf
+byte-number h s = either LengthNumber (ltb (h .at) (length s)) (λ _. tt) (λ _. refl)
+
+groups-number : (k n j : ℕ) (s : List ℕ) → LengthNumber (groups k n j s)
+unfolding groups oneOf
+groups-number zero n j s = refl
+groups-number (suc k) n j s =
+    either LengthNumber (ltb j (length s))
+    (λ _. either LengthNumber (ltb (getD s j 0) 128) (λ _. tt) (λ _. groups-number k (n * 128 + (getD s j 0 - 128)) (j + 1) s))
+    (λ _. refl)
+
+length-number : (f : Format) (h : Head) (s : List ℕ) → LengthNumber (shape f .vlen h s)
+unfolding fboss vpd tiny tinyLength
+length-number Fboss h s = byte-number h s
+length-number Vpd h s = groups-number 4 0 (h .at) s
+length-number Tiny h s = either LengthNumber (ltb (h .code) 16) (λ _. byte-number h s) (λ _. tt)
+
+-- ---- heads
+
+keyed-number : (x : Length) (s : List ℕ) → LengthNumber x → HeadNumber (keyedHead x s)
+unfolding oneOf
+keyed-number (Reads n j) s l = either HeadNumber (leb (j + n) (length s)) (λ _. tt) (λ _. refl)
+keyed-number (Fails n) s l = l
+
+head-number : (f : Format) (b : Bool) (s : List ℕ) → HeadNumber (shape f .head b s)
+unfolding fboss vpd tiny fbossHead vpdHead tinyHead oneOf
+head-number Fboss b s =
+    either HeadNumber (ltb 0 (length s))
+    (λ _. either HeadNumber (eqb (getD s 0 0) 0) (λ _. refl)
+    (λ _. either HeadNumber (eqb (getD s 0 0) 255) (λ _. refl)
+    (λ _. either HeadNumber (eqb (getD s 0 0) 250)
+    (λ _. either HeadNumber (ltb 1 (length s))
+    (λ _. either HeadNumber (eqb (getD s 1 0) 2) (λ _. either HeadNumber (ltb 3 (length s)) (λ _. tt) (λ _. refl)) (λ _. refl))
+    (λ _. refl))
+    (λ _. tt))))
+    (λ _. refl)
+head-number Vpd b s =
+    either HeadNumber (ltb 0 (length s))
+    (λ _. either HeadNumber (eqb (getD s 0 0) 0x00) (λ _. tt)
+    (λ _. either HeadNumber (eqb (getD s 0 0) 0xFF) (λ _. tt)
+    (λ _. either HeadNumber (eqb (getD s 0 0) 0x01) (λ _. keyed-number (groups 4 0 1 s) s (groups-number 4 0 1 s))
+    (λ _. either HeadNumber (eqb (getD s 0 0) 0xFE) (λ _. keyed-number (groups 4 0 1 s) s (groups-number 4 0 1 s)) (λ _. refl)))))
+    (λ _. refl)
+head-number Tiny b s =
+    either HeadNumber (ltb 0 (length s))
+    (λ _. either HeadNumber b (λ _. refl) (λ _. either HeadNumber (eqb (getD s 0 0) 0x00) (λ _. refl) (λ _. tt)))
+    (λ _. tt)
+
+pub next-number : (f : Format) (b : Bool) (s : List ℕ) → NextNumber (next (shape f) b s)
+unfolding next oneOf
+next-number f b s = heads (shape f .head b s) (head-number f b s)
+  where
+    lengths : (h : Head) (x : Length) → LengthNumber x → NextNumber (onLength x h s)
+    lengths h (Reads v j) l = either NextNumber (leb (j + v) (length s)) (λ _. tt) (λ _. refl)
+    lengths h (Fails n) l = l
+
+    heads : (x : Headed) → HeadNumber x → NextNumber (onHead x (shape f) s)
+    heads (Opens h) l = lengths h (shape f .vlen h s) (length-number f h s)
+    heads Ends l = tt
+    heads (Wrong n) l = l
+
+-- ---- headers
+
+pub opened-low : (f : Format) (s : List ℕ) → OpenedLow (shape f .opened s)
+unfolding fboss vpd tiny fbossOpened tinyOpened oneOf
+opened-low Fboss s =
+    either OpenedLow (ltb (length s) 4) (λ _. record { number = refl; place = omega arith })
+    (λ _. either OpenedLow (eqb (getD s 0 0) 0xFB && eqb (getD s 1 0) 0xFB)
+    (λ _. either OpenedLow (eqb (getD s 2 0) 0x05)
+    (λ _. either OpenedLow (eqb (getD s 3 0) 0xFF) (λ _. tt) (λ _. record { number = refl; place = omega arith }))
+    (λ _. record { number = refl; place = omega arith }))
+    (λ _. record { number = refl; place = omega arith }))
+opened-low Vpd s = tt
+opened-low Tiny s =
+    either OpenedLow (ltb (length s) 3) (λ _. record { number = refl; place = omega arith })
+    (λ _. either OpenedLow (eqb (getD s 0 0) 0x56)
+    (λ _. either OpenedLow (eqb (getD s 1 0) 0x02)
+    (λ _. either OpenedLow (leb 4 (getD s 2 0) && leb (getD s 2 0) (length s)) (λ _. tt) (λ _. record { number = refl; place = omega arith }))
+    (λ _. record { number = refl; place = omega arith }))
+    (λ _. record { number = refl; place = omega arith }))
+
+-- ---- formats and editions
+
+-- a list that has 16 and 1 has every number of a format or an edition
+module _ (numbers : List ℕ) (sixteen : oneOf numbers 16 ≡ true) (one : oneOf numbers 1 ≡ true) where
+  with-number : (e : ℕ) (f : Format) → ChosenNumber numbers (withEdition e f)
+  with-number e f = either (ChosenNumber numbers) (knownEdition e) (λ _. tt) (λ _. one)
+
+  pub chosen-number : (f e : ℕ) → ChosenNumber numbers (chosen f e)
+  unfolding chosen
+  chosen-number f e =
+      either (ChosenNumber numbers) (eqb f 1) (λ _. with-number e Fboss)
+      (λ _. either (ChosenNumber numbers) (eqb f 2) (λ _. with-number e Vpd)
+      (λ _. either (ChosenNumber numbers) (eqb f 3) (λ _. with-number e Tiny) (λ _. sixteen)))
