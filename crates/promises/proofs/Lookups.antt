@@ -19,22 +19,27 @@ use Rattle.layout.specs.declared.Lookup.{Lookup}
 use Rattle.layout.specs.declared.Lookup.the-variants.{Found, Missing}
 use Rattle.layout.specs.declared.Located.{Located}
 use Rattle.layout.specs.declared.Located.the-variants.{At, Nowhere}
-use Rattle.layout.specs.declared.Checked.the-variants.{Accepted}
-use Rattle.layout.specs.Bytes.{if, refusal}
+use Rattle.layout.specs.Bytes.{if, all, refusal}
 use Rattle.layout.specs.Editions.{shape, chosen}
-use Rattle.layout.specs.Read.{limit, Read, accepted, refused, bad, readAs, readChosen, readImage}
-use Rattle.layout.specs.Calls.{Told, toldRefusal, entriesOf, checkImage, listEntries, nth, foundBy, entryAt, valueAt, stepFrom}
+use Rattle.layout.specs.Read.{limit, refused, bad, readAs, readChosen, readImage}
+use Rattle.layout.specs.Calls.{Told, toldRefusal, entriesOf, checkImage, listEntries, nth, entryAt, valueAt, stepFrom}
 use Rattle.layout.specs.Write.{refuse}
 use Rattle.layout.specs.Edit.{editRead, editChosen, editEntry}
 use Rattle.laws.specs.Contents.{said}
 use Rattle.laws.proofs.Records.{entries-count}
 use Rattle.laws.proofs.Calls.{Found as FoundImage, check-found}
-use Rattle.promises.specs.Words.{Counts, IsRefused, Item, here, there, tellsCheck}
+use Rattle.promises.specs.Words.{Item, here, there}
 use Rattle.promises.specs.Lookups.{toldBySteps, numberAfter, given, OneByOne, AsChecked, StepRule, Twin, Lookups}
+use Rattle.promises.specs.Numbers.{imageNumbers}
 use Rattle.promises.proofs.Accepting.{lists}
+use Rattle.promises.proofs.FormatNumbers.{tabled}
+use Rattle.promises.proofs.Entries.{LookupIn}
+use Rattle.promises.proofs.ReadCalls.{entry-in}
+use Rattle.promises.proofs.Telling.{counts-accepted, check-refused}
 
 -- ---- one of a list
 
+-- an item of this number is found, and nothing past the last
 nth-item : (xs : List Entry) (i : ℕ) (x : Entry) → Item xs i x → nth xs i ≡ Found x
 unfolding nth
 nth-item (y ∷ xs) zero x here = refl
@@ -60,7 +65,7 @@ module _ (f e : ℕ) (image : List ℕ) where
   unfolding nth
   from-next i x xs h j = let q : i + 1 + j ≡ i + suc j = omega arith in rw q (h (suc j))
 
-  -- k steps from there
+  -- what k steps from there tell, and the entry number that the walk then has
   walked-from : (k i : ℕ) (xs : List Entry) → From i xs →
       toldBySteps f e image i k ≡ take k (map given xs) ++ replicate (k - length xs) (toldRefusal (refusal 13 0))
   unfolding toldBySteps stepFrom nth
@@ -74,7 +79,8 @@ module _ (f e : ℕ) (image : List ℕ) where
   moved-from zero i xs h le = sym (add-zero i)
   moved-from (suc k) i [] h le = absurd (omega arith)
   moved-from (suc k) i (x ∷ xs) h le =
-      rw (from-here i (x ∷ xs) h) (let q = moved-from k (i + 1) xs (from-next i x xs h) (omega arith) in q ∙ (let w : i + 1 + k ≡ i + suc k = omega arith in w))
+      let at : i + 1 + k ≡ i + suc k = omega arith in
+      rw (from-here i (x ∷ xs) h) (moved-from k (i + 1) xs (from-next i x xs h) (omega arith) ∙ at)
 
   stayed-from : (k i : ℕ) (xs : List Entry) → From i xs → length xs ≤ k → numberAfter f e image i k ≡ i + length xs
   unfolding numberAfter stepFrom nth
@@ -82,10 +88,12 @@ module _ (f e : ℕ) (image : List ℕ) where
   stayed-from zero i (x ∷ xs) h le = absurd (omega arith)
   stayed-from (suc k) i [] h le = rw (from-here i [] h) (stayed-from k i [] h (omega arith))
   stayed-from (suc k) i (x ∷ xs) h le =
-      rw (from-here i (x ∷ xs) h) (let q = stayed-from k (i + 1) xs (from-next i x xs h) (omega arith) in q ∙ (let w : i + 1 + length xs ≡ i + suc (length xs) = omega arith in w))
+      let at : i + 1 + length xs ≡ i + suc (length xs) = omega arith in
+      rw (from-here i (x ∷ xs) h) (stayed-from k (i + 1) xs (from-next i x xs h) (omega arith) ∙ at)
 
 -- ---- an accepted image
 
+-- entry i is one of the image's records
 found-all : (f e : ℕ) (image : List ℕ) (n : ℕ) (x : FoundImage f e image n) (i : ℕ) → entryAt f e image i ≡ nth (entriesOf (shape (x .format)) e (x .start) (x .raws)) i
 unfolding entryAt
 found-all f e image n x i = rw (x .reading .read)
@@ -143,45 +151,29 @@ as-checked f e image r q =
 
 -- ---- any image
 
-nth-missing : (xs : List Entry) (i : ℕ) (r : Refusal) → nth xs i ≡ Missing r → r ≡ refusal 13 0
-unfolding nth
-nth-missing [] i r q = let s : refusal 13 0 ≡ r = cc in sym s
-nth-missing (x ∷ xs) zero r q = let z : _≡_ {A = ℕ} 0 1 = cc in absurd (omega arith)
-nth-missing (x ∷ xs) (suc i) r q = nth-missing xs i r q
-
 twin-of : (f e : ℕ) (image : List ℕ) (n : ℕ) → Twin f e image n
 twin-of f e image n = go (valueAt f e image n) refl
   where
     go : (x : Located) → valueAt f e image n ≡ x → Twin f e image n
-    go (At x) q = record { number = rw q; place = rw q; empty = λ no. absurd (no (rw q)) }
-    go (Nowhere r) q = record { number = rw q; place = rw q; empty = λ no. rw q }
+    go (At x) q = record { number = rw q; place = rw q; empty = λ r. absurd (r (rw q)) }
+    go (Nowhere r) q = record { number = rw q; place = rw q; empty = λ r. rw q }
 
-module _ (counts-accepted : (f e : ℕ) (image : List ℕ) (n : ℕ) → Counts (tellsCheck f e image) n → checkImage f e image ≡ Accepted n)
-    (check-refused : (f e : ℕ) (image : List ℕ) → IsRefused (tellsCheck f e image) → (r : Refusal) × (readImage f e image ≡ refused r))
-    (numbered : (f e : ℕ) (image : List ℕ) (r : Refusal) → readImage f e image ≡ refused r → r .number ≡ 0 → ⊥)
+-- a missing entry is refused by a number of its table, which has no 0
+step-rule : (f e n : ℕ) (image : List ℕ) → StepRule f e n image
+unfolding stepFrom all
+step-rule f e n image = go (entryAt f e image n) refl (entry-in f e image n)
   where
-    -- a missing entry has a number
-    missing-numbered : (f e : ℕ) (image : List ℕ) (n : ℕ) (r : Refusal) → entryAt f e image n ≡ Missing r → r .number ≡ 0 → ⊥
-    unfolding entryAt
-    missing-numbered f e image n r q z = go (readImage f e image) refl q
-      where
-        go : (x : Read) → readImage f e image ≡ x → foundBy x e n ≡ Missing r → ⊥
-        go (accepted g start rs) y q = omega (arith, ap (λ (s : Refusal). s .number) (nth-missing (entriesOf (shape g) e start rs) n r q))
-        go (refused s) y q = let same : s ≡ r = cc in numbered f e image r (rw same at y) z
+    go : (x : Lookup) → entryAt f e image n ≡ x → LookupIn x → StepRule f e n image
+    go (Found x) q l = record { answers = refl; onward = λ z. rw q; unmoved = λ r. absurd (r (rw q)) }
+    go (Missing r) q l =
+        let some : 1 ≤ r .number = tabled (13 ∷ imageNumbers) (r .number) refl (l .number) .0 in
+        record { answers = refl; onward = λ z. let none : r .number ≡ 0 = rw q at z in absurd (omega arith); unmoved = λ r. rw q }
 
-    step-rule : (f e n : ℕ) (image : List ℕ) → StepRule f e n image
-    unfolding stepFrom
-    step-rule f e n image = go (entryAt f e image n) refl
-      where
-        go : (x : Lookup) → entryAt f e image n ≡ x → StepRule f e n image
-        go (Found x) q = record { answers = refl; onward = λ z. rw q; unmoved = λ no. absurd (no (rw q)) }
-        go (Missing r) q = record { answers = refl; onward = λ z. absurd (missing-numbered f e image n r q (rw q at z)); unmoved = λ no. rw q }
-
-    pub lookups : Lookups
-    lookups =
-        record {
-          accepted = λ f e image n q. one-by-one f e image n (check-found f e image n (counts-accepted f e image n q));
-          refused = λ f e image no. let x = check-refused f e image no in as-checked f e image (x .0) (x .1);
-          stepped = step-rule;
-          twin = twin-of;
-        }
+pub lookups : Lookups
+lookups =
+    record {
+      accepted = λ f e image n q. one-by-one f e image n (check-found f e image n (counts-accepted f e image n q));
+      refused = λ f e image q. let x = check-refused f e image q in as-checked f e image (x .0) (x .1);
+      stepped = step-rule;
+      twin = twin-of;
+    }

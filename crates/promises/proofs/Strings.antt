@@ -14,7 +14,6 @@ use Rattle.layout.specs.declared.Part.{Part}
 use Rattle.layout.specs.declared.Entry.{Entry}
 use Rattle.layout.specs.declared.Refusal.{Refusal}
 use Rattle.layout.specs.declared.Located.the-variants.{At}
-use Rattle.layout.specs.declared.Checked.the-variants.{Accepted}
 use Rattle.layout.specs.Bytes.{partAt}
 use Rattle.layout.specs.Tiny.{tiny}
 use Rattle.layout.specs.Walk.{Raw, content}
@@ -25,10 +24,10 @@ use Rattle.laws.specs.Grammar.{tinyGrammar, Each, none, also}
 use Rattle.laws.proofs.Walking.{Frames}
 use Rattle.laws.proofs.Records.{entries-count}
 use Rattle.laws.proofs.Calls.{Reading, Found, check-found}
-use Rattle.promises.specs.Words.{Numbered, fboss, vpd, tiny as tinyNumber, Counts, Refuses, IsRefused, Item, here, there, tellsCheck, tellsString}
+use Rattle.promises.specs.Words.{Numbered, fboss, vpd, tiny as tinyNumber, Refuses, Item, here, there, tellsCheck, tellsString}
 use Rattle.promises.specs.Strings.{Strings, tail, string, PoolStrings, TinyStrings, StringRule}
 use Rattle.promises.proofs.Accepting.{lists, records-say}
-use Rattle.promises.proofs.Telling.{chosen-serves}
+use Rattle.promises.proofs.Telling.{chosen-serves, counts-accepted, check-refused}
 
 -- ---- bytes cut into strings
 
@@ -106,6 +105,7 @@ pool-is e image (r ∷ s ∷ rs) p b fs says (suc i) x (there it) is k =
     let same : map (said image) (entriesOf tiny e (p + r .frame .size) (s ∷ rs)) ≡ map content (s ∷ rs) = cc in
     rw (fs .2 .0) (pool-is e image (s ∷ rs) (p + r .frame .size) (eqb (r .frame .code) 0x01) (fs .2) same i x it is k)
 
+-- and where no entry has that code there is no string
 no-pool : (e : ℕ) (rs : List Raw) (p : ℕ) → Each (λ x. x .code ≡ 0x01 → ⊥) (entriesOf tiny e p rs) → (k : ℕ) → poolString p rs k ≡ noString
 unfolding entriesOf entryOf poolString
 no-pool e [] p none k = refl
@@ -160,13 +160,10 @@ another-format : (f e : ℕ) (image : List ℕ) (k : ℕ) → (f ≡ 3 → ⊥) 
 unfolding stringAt
 another-format f e image k other = rw (ne-eqb f 3 other)
 
-module _ (counts-accepted : (f e : ℕ) (image : List ℕ) (n : ℕ) → Counts (tellsCheck f e image) n → checkImage f e image ≡ Accepted n)
-    (check-refused : (f e : ℕ) (image : List ℕ) → IsRefused (tellsCheck f e image) → (r : Refusal) × (readImage f e image ≡ refused r))
-  where
-    pub string-rule : StringRule
-    string-rule =
-        record {
-          accepted = λ e image n q. found-strings e image n (check-found 3 e image n (counts-accepted 3 e image n q));
-          refused = λ e image k no. let x = check-refused 3 e image no in string-refused e image (x .0) (x .1) k;
-          another = another-format;
-        }
+pub string-rule : StringRule
+string-rule =
+    record {
+      accepted = λ e image n q. found-strings e image n (check-found 3 e image n (counts-accepted 3 e image n q));
+      refused = λ e image k q. let x = check-refused 3 e image q in string-refused e image (x .0) (x .1) k;
+      another = another-format;
+    }
