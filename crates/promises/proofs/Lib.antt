@@ -4,6 +4,15 @@ pub mod Refusals
 pub mod Entries
 pub mod ReadCalls
 pub mod WriteCalls
+pub mod Numbers
 pub mod Telling
+pub mod Unchanged
+pub mod PublishedRules
+pub mod Older
+pub mod OlderReads
+pub mod Output
+pub mod RoundTrip
+pub mod Edits
+pub mod OlderEdits
 pub mod Lookups
 pub mod Strings

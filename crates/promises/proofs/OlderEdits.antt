@@ -21,6 +21,7 @@ use Rattle.laws.proofs.Formats.{laws}
 use Rattle.laws.proofs.Calls.{Reading, Found, check-found, chosen-stands}
 use Rattle.promises.specs.OlderEdits.{Kept, OlderEdits}
 use Rattle.promises.proofs.Accepting.{reads}
+use Rattle.promises.proofs.Telling.{counts-accepted, counts-edited}
 use Rattle.promises.proofs.Older.{older-reading}
 use Rattle.promises.proofs.Output.{Took, took-reads}
 use Rattle.promises.proofs.Edits.{Done, edit-done, value-fits}
@@ -57,8 +58,8 @@ kept f o n image i v out m d r =
 
 pub older-edits : OlderEdits
 older-edits f o n image count i v out m le q w =
-    let x : Found f n image count = check-found f n image count q in
-    let d : Done f o image i v out m = edit-done f o image i v out m w in
+    let x : Found f n image count = check-found f n image count (counts-accepted f n image count q) in
+    let d : Done f o image i v out m = edit-done f o image i v out m (counts-edited f o image i v out m w) in
     let known = chosen-stands f o (d .format) (d .reading .known) .1 in
     let r = older-reading f o n image (x .format) (x .start) (x .raws) known le (x .reading) in
     kept f o n image i v out m d (same-reading f o n image (d .format) (x .format) (d .start) (x .start) (d .raws) (x .raws) (d .reading) r (x .reading))

@@ -27,6 +27,7 @@ use Rattle.laws.proofs.Calls.{Reading, Found, check-found, accepted-reading, ma
 use Rattle.promises.specs.Words.{Reads}
 use Rattle.promises.specs.PublishedRules.{OfGrammar, PublishedRules}
 use Rattle.promises.proofs.Accepting.{reads}
+use Rattle.promises.proofs.Telling.{serves-chosen, chosen-serves, counts-accepted}
 
 -- ---- required codes
 
@@ -111,7 +112,7 @@ of-grammar f e image n x =
     let g = x .format in
     record {
       format = g;
-      known = r .known;
+      serves = chosen-serves f e g (r .known);
       contents = map content rs;
       published =
           record {
@@ -142,6 +143,6 @@ is-read f e g image cs k p w =
 pub published-rules : PublishedRules
 published-rules =
     record {
-      accepted-is = λ f e image n q. of-grammar f e image n (check-found f e image n q);
-      is-accepted = λ f e g image cs k p. is-read f e g image cs k p (entries-frames (laws g) (p .made));
+      accepted-is = λ f e image n q. of-grammar f e image n (check-found f e image n (counts-accepted f e image n q));
+      is-accepted = λ f e g image cs s p. is-read f e g image cs (serves-chosen s) p (entries-frames (laws g) (p .made));
     }

@@ -29,6 +29,7 @@ use Rattle.laws.proofs.Formats.{laws}
 use Rattle.laws.proofs.Calls.{Stands, one, two, three, chosen-stands}
 use Rattle.promises.specs.Words.{Reads}
 use Rattle.promises.specs.RoundTrip.{fieldSays, RoundTrip}
+use Rattle.promises.proofs.Telling.{counts-written}
 use Rattle.promises.proofs.Output.{entries-shorter, Took, put-took, never-unwritten, took-reads}
 
 -- ---- what a field says
@@ -53,7 +54,7 @@ pub record Done (f e : ℕ) (xs : List Field) (values out : List ℕ) (n : ℕ) 
   pub required : complete (shape format .required) (contentCodes (contentsOf (shape format) values xs)) ≡ true
   pub took : Took (imageOf (shape format) (entriesBytes (shape format) (contentsOf (shape format) values xs))) out n (writeImage f e xs values out .memory)
 
-write-done : (f e : ℕ) (xs : List Field) (values out : List ℕ) (n : ℕ) → writeImage f e xs values out .answer ≡ Wrote n → Done f e xs values out n
+pub write-done : (f e : ℕ) (xs : List Field) (values out : List ℕ) (n : ℕ) → writeImage f e xs values out .answer ≡ Wrote n → Done f e xs values out n
 unfolding writeImage writeAs
 write-done f e xs values out n q = choose (chosen f e) refl q
   where
@@ -106,4 +107,4 @@ done-reads f e xs values out n d =
     (took-reads f e g (map (fresh S) cs) out n (writeImage f e xs values out .memory) (d .known) (made .0) (rw (made .1) (fine .1)) (rw (fresh-codes S cs) (d .required)) (d .short) took)
 
 pub round-trip : RoundTrip
-round-trip f e xs values out n q = done-reads f e xs values out n (write-done f e xs values out n q)
+round-trip f e xs values out n q = done-reads f e xs values out n (write-done f e xs values out n (counts-written f e xs values out n q))
