@@ -23,3 +23,5 @@ pub mod OlderEdits
 pub mod Listing
 pub mod EditsTaken
 pub mod EditRule
+pub mod Lookups
+pub mod Strings
