@@ -36,7 +36,7 @@ use Rattle.promises.specs.EditRule.{lengthPlace, editedSize, Editable as
 use Rattle.promises.proofs.Telling.{chosen-serves, edited-some}
 use Rattle.promises.proofs.Naming.{named-names, names-named}
 use Rattle.promises.proofs.Listing.{list-of}
-use Rattle.promises.proofs.Written.{lens-size, image-size}
+use Rattle.promises.proofs.Written.{lens-size, image-size, fits-allowed, allowed-fits}
 use Rattle.promises.proofs.Output.{never-unwritten, put-fits, put-fitting}
 use Rattle.promises.proofs.Edits.{edit-short}
 
@@ -103,24 +103,12 @@ item-sizes g e p b (r ∷ rs) (suc i) v x fs (there t) =
       becomes = omega (arith, length-append (r .bytes) (editedBytes (shape g) rs i v), s .becomes);
     }
 
--- ---- the output
-
+-- what stands before the entries is as long in every image of a format
 header-size : (g : Format) (n : ℕ) → length (shape g .header n) ≡ headerSize g
 unfolding fboss vpd tiny
 header-size Fboss n = refl
 header-size Vpd n = refl
 header-size Tiny n = refl
-
--- what fits an output is no longer than its format allows
-most-allowed : (g : Format) (size : ℕ) (out : List ℕ) → length out ≤ limit → Fits g size out → size ≤ shape g .most
-unfolding fboss vpd tiny
-most-allowed Fboss size out short f = omega (arith, f .room)
-most-allowed Vpd size out short f = omega (arith, f .room)
-most-allowed Tiny size out short f = f .total refl
-
-tiny-most : (g : Format) (size : ℕ) → size ≤ shape g .most → g ≡ Tiny → size ≤ 255
-unfolding tiny
-tiny-most g size h is = rw is at h
 
 -- ---- edits of an accepted image
 
@@ -158,7 +146,7 @@ module _ (f e : ℕ) (image : List ℕ) (n : ℕ) (x : Found f e image n) (i : �
           let r = editable-item S e (x .start) rs i v (may-editable S e (x .start) rs i v a) in
           let image′ : List ℕ = imageOf S (editedBytes S rs i v) in
           let within = put-fits S image′ out m q in
-          let fits : Fits g (length image′) out = record { room = within .1; total = tiny-most g (length image′) (within .0) } in
+          let fits : Fits g (length image′) out = allowed-fits g (length image′) out (within .0) (within .1) in
           record {
             entry = r .entry;
             there = r .there;
@@ -175,7 +163,7 @@ module _ (f e : ℕ) (image : List ℕ) (n : ℕ) (x : Found f e image n) (i : �
       let image′ : List ℕ = imageOf S (editedBytes S rs i v) in
       let may = editable-may S e (x .start) rs i v (item-editable S e (x .start) rs i v (y .entry) (y .there) (named-names g e (y .entry .code) (y .named)) (y .ruled)) in
       let fits : Fits g (length image′) out = rw (edited-size (y .entry) (y .there)) (y .fits) in
-      rw (edit-accepted (y .short), may, put-fitting S image′ out (most-allowed g (length image′) out (y .short) fits) (fits .room))
+      rw (edit-accepted (y .short), may, put-fitting S image′ out (fits-allowed g (length image′) out (y .short) fits) (fits .room))
 
 pub edits : (f e : ℕ) (image : List ℕ) (n : ℕ) → Found f e image n → Edits f e image n
 edits f e image n x = record { list = list-of f e image n x; taken-is = taken-is f e image n x; is-taken = is-taken f e image n x }
