@@ -9,7 +9,7 @@ use Rattle.layout.specs.declared.Entry.{Entry}
 use Rattle.layout.specs.Bytes.{part}
 use Rattle.records.specs.Packed.{packed}
 use Rattle.records.specs.Words.{recordBytes}
-use Rattle.boardid.specs.Exports.{Given, entryCall, listCall, writeCall, editCall, walkFormat, walkEdition, walkEntry, stepCall}
+use Rattle.records.specs.Exports.{Given, entryCall, listCall, writeCall, editCall, walkFormat, walkEdition, walkEntry, stepCall}
 use Rattle.promises.specs.Words.{Item, Lists, tellsList, tellsEntry}
 use Rattle.promises.specs.Lookups.{given}
 use Rattle.answers.specs.Whole.{numberOf}

@@ -30,20 +30,9 @@ use Rattle.reader.specs.declared.Here.the-variants.{Stands, Over}
 use Rattle.reader.specs.Here.{hereBy, hereAt}
 use Rattle.reader.proofs.Lying.{framed-lies}
 use Rattle.records.specs.Words.{wordsBytes, readingWords, recordWords, recordBytes, recordsBytes}
-use Rattle.records.proofs.Words.{length-words, reading-eight}
+use Rattle.records.proofs.Words.{length-record, length-records}
 
 -- ---- records
-
-pub length-record : (x : Entry) → length (recordBytes x) ≡ 64
-unfolding recordBytes
-length-record x =
-    let e : length (readingWords (x .reading)) ≡ 8 = sym (ap length (reading-eight (x .reading))) in
-    omega (arith, length-words (recordWords x), e)
-
-pub length-records : (xs : List Entry) → length (recordsBytes xs) ≡ length xs * 64
-unfolding recordsBytes
-length-records [] = refl
-length-records (x ∷ xs) = let q = length-records xs in omega (arith, q, length-record x, length-append (recordBytes x) (recordsBytes xs))
 
 records-snoc : (xs : List Entry) (x : Entry) → recordsBytes (xs ++ (x ∷ [])) ≡ recordsBytes xs ++ recordBytes x
 unfolding recordsBytes

@@ -31,8 +31,8 @@ use Rattle.accept.proofs.Rooms.{took, not-took}
 use Rattle.records.specs.Packed.{packed}
 use Rattle.records.specs.Words.{wordsBytes, recordBytes, recordsBytes}
 use Rattle.records.proofs.Words.{length-words}
-use Rattle.boardid.specs.Exports.{Given, kept, recorded, entryCall, walkFormat, walkEdition, walkEntry, walkAt, Moved, unmoved, steppedTo, stepped, stepCall, recordedAll, recordedBy, listCall}
-use Rattle.boardid.proofs.Filling.{length-record, length-records}
+use Rattle.records.specs.Exports.{Given, kept, recorded, entryCall, walkFormat, walkEdition, walkEntry, walkAt, Moved, unmoved, steppedTo, stepped, stepCall, recordedAll, recordedBy, listCall}
+use Rattle.records.proofs.Words.{length-record, length-records}
 
 -- the packed answer does not show the entries that are given
 pub counted : (n : ℕ) (es : List Entry) → packed (told n (partAt 0 0) []) ≡ packed (told n (partAt 0 0) es)

@@ -10,7 +10,7 @@ ghost use Rattle.laws.specs.Passes.{walked, IsDone, rawsIn};
 ghost use Rattle.output.specs.Placing.{copied};
 ghost use Rattle.records.specs.Packed.{packed};
 ghost use Rattle.records.specs.Words.{wordsBytes, recordsBytes};
-ghost use Rattle.boardid.specs.Exports.{checkCall, valueCall, stringCall, entryCall, walkFormat, walkEdition, walkEntry, stepCall, listCall, writeCall, editCall};
+ghost use Rattle.records.specs.Exports.{checkCall, valueCall, stringCall, entryCall, walkFormat, walkEdition, walkEntry, stepCall, listCall, writeCall, editCall};
 use accept::Taken;
 use layout::Format;
 use layout::Lookup;

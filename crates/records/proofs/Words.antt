@@ -12,8 +12,9 @@ use Rattle.output.specs.Placing.{over, copied}
 use Rattle.output.proofs.Overlay.{length-over, over-nil, over-over, copied-over, copied-not, Copying, copies, copied-all}
 use Rattle.layout.specs.declared.Reading.{Reading}
 use Rattle.layout.specs.declared.Reading.the-variants.{Plain, Text, Number, Addresses, Numbered, Tests, Identified, Batched}
+use Rattle.layout.specs.declared.Entry.{Entry}
 use Rattle.layout.specs.Calls.{toldReading}
-use Rattle.records.specs.Words.{wordBytes, wordsBytes, readingWords}
+use Rattle.records.specs.Words.{wordBytes, wordsBytes, readingWords, recordWords, recordBytes, recordsBytes}
 
 -- four bytes stored one after another
 pub stored-four : (d : List ℕ) (a w x y z : ℕ) → a + 4 ≤ length d → set (set (set (set d a w) (a + 1) x) (a + 2) y) (a + 3) z ≡ copied d a (w ∷ x ∷ y ∷ z ∷ [])
@@ -85,3 +86,15 @@ reading-eight (Numbered s) = refl
 reading-eight (Tests byte n) = refl
 reading-eight (Identified x) = refl
 reading-eight (Batched x batch) = refl
+
+-- a record has 64 bytes
+pub length-record : (x : Entry) → length (recordBytes x) ≡ 64
+unfolding recordBytes
+length-record x =
+    let e : length (readingWords (x .reading)) ≡ 8 = sym (ap length (reading-eight (x .reading))) in
+    omega (arith, length-words (recordWords x), e)
+
+pub length-records : (xs : List Entry) → length (recordsBytes xs) ≡ length xs * 64
+unfolding recordsBytes
+length-records [] = refl
+length-records (x ∷ xs) = let q = length-records xs in omega (arith, q, length-record x, length-append (recordBytes x) (recordsBytes xs))

@@ -1,2 +1,3 @@
 pub mod Packed
 pub mod Words
+pub mod Exports

@@ -4,7 +4,7 @@ use mathlib.Core.Path.{_≡_, ap, sym, _∙_}
 use denote.Ref.{now}
 use Rattle.layout.specs.declared.Lookup.the-variants.{Found, Missing}
 use Rattle.layout.specs.Calls.{entryAt}
-use Rattle.boardid.specs.Exports.{Given}
+use Rattle.records.specs.Exports.{Given}
 use Rattle.boardid.proofs.Giving.{none-recorded, not-recorded, is-recorded, entry-is}
 use borrow.Author.Needs.{needs}
 use Rattle.boardid.proofs.boardid_entry.Statement.{statement}

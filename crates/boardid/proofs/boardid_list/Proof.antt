@@ -4,7 +4,7 @@ use mathlib.Core.Path.{_≡_, ap, sym, _∙_}
 use denote.Ref.{now}
 use Rattle.accept.specs.declared.Taken.the-variants.{Is, Isnt}
 use Rattle.accept.specs.Taken.{taken}
-use Rattle.boardid.specs.Exports.{Given}
+use Rattle.records.specs.Exports.{Given}
 use Rattle.boardid.proofs.Giving.{list-refused, list-short, list-fills}
 use borrow.Author.Needs.{needs}
 use Rattle.boardid.proofs.boardid_list.Statement.{statement}

@@ -10,7 +10,7 @@ use Rattle.reader.specs.declared.Walk.{Walk}
 use Rattle.reader.specs.declared.Stepped.{Stepped}
 use Rattle.reader.specs.Walk.{stepWalk}
 use Rattle.records.specs.Words.{wordsBytes}
-use Rattle.boardid.specs.Exports.{Moved, walkFormat, walkEdition, walkEntry}
+use Rattle.records.specs.Exports.{Moved, walkFormat, walkEdition, walkEntry}
 use Rattle.boardid.proofs.Giving.{stepsTo, step-refused, step-short, step-given}
 use borrow.Author.Needs.{needs}
 use Rattle.boardid.proofs.boardid_step.Statement.{statement}
