@@ -1,7 +1,7 @@
 -- Promise 1 holds.
 -- Assumes nothing.
-use Prim.Native.Nat.{ℕ, zero, suc, _+_, _≤_}
-use mathlib.Core.Path.{_≡_, refl, ap, ap₂, sym, _∙_}
+use Prim.Native.Nat.{ℕ, _+_}
+use mathlib.Core.Path.{_≡_, refl, ap, ap₂, sym}
 use mathlib.Core.List.{List, [], _∷_, _++_, map}
 use mathlib.Core.Bool.{Bool, true, false}
 use lib.ListN.{length}
@@ -9,13 +9,11 @@ use lib.Dec.{eqb}
 use borrow.Author.Tests.{eqb-true, eq-eqb}
 use Rattle.layout.specs.declared.Format.{Format}
 use Rattle.layout.specs.declared.Chosen.the-variants.{Known}
-use Rattle.layout.specs.declared.Checked.the-variants.{Accepted}
 use Rattle.layout.specs.Bytes.{if, oneOf}
 use Rattle.layout.specs.Shape.{Shape}
 use Rattle.layout.specs.Editions.{shape, chosen}
 use Rattle.layout.specs.Walk.{Raw, Content, content, flat}
 use Rattle.layout.specs.Read.{codesOf, complete}
-use Rattle.layout.specs.Calls.{checkImage}
 use Rattle.laws.specs.Grammar.{Grammar, grammar, EntryOf, Entries, noEntry, entry, Each, none, also, Among, first, later, Published}
 use Rattle.laws.proofs.Choices.{false-true, both}
 use Rattle.laws.proofs.Format.{Laws}

@@ -1,29 +1,28 @@
 -- Promise 3 holds.
 -- Assumes nothing.
-use Prim.Native.Nat.{ℕ, _+_, _-_, _≤_}
-use mathlib.Core.Path.{_≡_, refl, ap, ap₂, sym, _∙_}
-use mathlib.Core.List.{List, [], _∷_, _++_, map}
+use Prim.Native.Nat.{ℕ, _-_, _≤_}
+use mathlib.Core.Path.{_≡_, refl, ap, ap₂, _∙_}
+use mathlib.Core.List.{List, [], _∷_, map}
 use mathlib.Core.Bool.{Bool, true, false}
 use native.Mathlib.Omega.{arith}
 use lib.ListN.{length, take}
-use lib.Dec.{ltb, eqb}
+use lib.Dec.{ltb}
 use borrow.Author.Tests.{ltb-false, eqb-true, ne-eqb}
 use Rattle.layout.specs.declared.Format.{Format}
 use Rattle.layout.specs.declared.Format.the-variants.{Fboss, Vpd, Tiny}
 use Rattle.layout.specs.declared.Field.{Field}
 use Rattle.layout.specs.declared.Chosen.{Chosen}
 use Rattle.layout.specs.declared.Chosen.the-variants.{Known, Unknown}
-use Rattle.layout.specs.declared.Made.the-variants.{Wrote, Unwritten}
+use Rattle.layout.specs.declared.Made.the-variants.{Wrote}
 use Rattle.layout.specs.Bytes.{if, refusal}
 use Rattle.layout.specs.Shape.{Shape}
 use Rattle.layout.specs.Fboss.{fboss}
 use Rattle.layout.specs.Vpd.{vpd}
 use Rattle.layout.specs.Tiny.{tiny}
 use Rattle.layout.specs.Editions.{shape, chosen}
-use Rattle.layout.specs.Walk.{Raw, Content, content, flat}
+use Rattle.layout.specs.Walk.{Content, content}
 use Rattle.layout.specs.Read.{limit, Judged, fine, faulty, complete, codesOf}
 use Rattle.layout.specs.Write.{Outcome, refuse, judgeFields, contentsOf, contentCodes, entriesBytes, imageOf, put, fieldContent, writeJudged, writeAs, writeChosen, writeImage}
-use Rattle.laws.specs.Grammar.{grammar}
 use Rattle.laws.proofs.Writing.{fresh, fresh-flat, fields-fine, fresh-frames}
 use Rattle.laws.proofs.Formats.{laws}
 use Rattle.laws.proofs.Calls.{Stands, one, two, three, chosen-stands}
