@@ -2,3 +2,4 @@ pub mod Packing
 pub mod Whole
 pub mod Readings
 pub mod Records
+pub mod Lent

@@ -35,7 +35,7 @@ use Rattle.answers.proofs.Readings.{Bytes, Words, each-take, each-part,
 -- ---- words in bytes
 
 -- a word that fits four bytes is read back from them
-word-back : (w : ℕ) (t : List ℕ) → w < 4294967296 → word 0 (wordBytes w ++ t) ≡ w
+pub word-back : (w : ℕ) (t : List ℕ) → w < 4294967296 → word 0 (wordBytes w ++ t) ≡ w
 word-back w t lt =
     let z₀ : w % 256 + w / 256 * 256 ≡ w = omega arith in
     let z₁ : w / 256 % 256 + w / 65536 * 256 ≡ w / 256 = omega arith in
@@ -43,15 +43,12 @@ word-back w t lt =
     let z₃ : w / 16777216 % 256 ≡ w / 16777216 = omega arith in
     omega arith
 
--- what stands after four bytes is read four bytes further on
-word-after : (w a : ℕ) (t : List ℕ) → word (4 + a) (wordBytes w ++ t) ≡ word a t
-word-after w a t =
-    let s = wordBytes w ++ t in
-    let b₀ : getD s (4 + a) 0 ≡ getD t a 0 = getD-append-add (wordBytes w) t a 0 in
-    omega (arith, byte 1, byte 2, byte 3)
+-- what stands after other bytes is read so many bytes further on
+pub word-past : (front : List ℕ) (a : ℕ) (t : List ℕ) → word (length front + a) (front ++ t) ≡ word a t
+word-past front a t = omega (arith, getD-append-add front t a 0, byte 1, byte 2, byte 3)
   where
-    byte : (j : ℕ) → getD (wordBytes w ++ t) (4 + a + j) 0 ≡ getD t (a + j) 0
-    byte j = let q : 4 + a + j ≡ 4 + (a + j) = omega arith in rw q (getD-append-add (wordBytes w) t (a + j) 0)
+    byte : (j : ℕ) → getD (front ++ t) (length front + a + j) 0 ≡ getD t (a + j) 0
+    byte j = let q : length front + a + j ≡ length front + (a + j) = omega arith in rw q (getD-append-add front t (a + j) 0)
 
 words-back : (ws : List ℕ) (k : ℕ) → Words ws → k < length ws → word (k * 4) (wordsBytes ws) ≡ getD ws k 0
 unfolding wordsBytes
@@ -59,7 +56,7 @@ words-back [] k none lt = absurd (omega arith)
 words-back (w ∷ ws) zero (also p ps) lt = word-back w (wordsBytes ws) p
 words-back (w ∷ ws) (suc k) (also p ps) lt =
     let q : suc k * 4 ≡ 4 + k * 4 = omega arith in
-    rw q (word-after w (k * 4) (wordsBytes ws) ∙ words-back ws k ps (omega arith))
+    rw q (word-past (wordBytes w) (k * 4) (wordsBytes ws) ∙ words-back ws k ps (omega arith))
 
 -- ---- records
 
