@@ -24,7 +24,7 @@ use Rattle.laws.specs.Grammar.{tinyGrammar, Each, none, also}
 use Rattle.laws.proofs.Walking.{Frames}
 use Rattle.laws.proofs.Records.{entries-count}
 use Rattle.laws.proofs.Calls.{Reading, Found, check-found}
-use Rattle.promises.specs.Words.{Numbered, fboss, vpd, tiny as tinyNumber, Refuses, Item, here, there, tellsCheck, tellsString}
+use Rattle.promises.specs.Words.{FormatNumber, fboss, vpd, tiny as tinyNumber, Refuses, Item, here, there, tellsCheck, tellsString}
 use Rattle.promises.specs.Strings.{Strings, tail, string, PoolStrings, TinyStrings, StringRule}
 use Rattle.promises.proofs.Accepting.{lists, records-say}
 use Rattle.promises.proofs.Telling.{chosen-serves, counts-accepted, check-refused}
@@ -113,7 +113,7 @@ no-pool e (r ∷ rs) p (also other more) k = rw (ne-eqb (r .frame .code) 0x01 ot
 
 -- ---- Tiny alone
 
-three-tiny : {f : ℕ} {g : Format} → Numbered f g → f ≡ 3 → g ≡ Tiny
+three-tiny : {f : ℕ} {g : Format} → FormatNumber f g → f ≡ 3 → g ≡ Tiny
 three-tiny fboss q = absurd (omega arith)
 three-tiny vpd q = absurd (omega arith)
 three-tiny tinyNumber q = refl

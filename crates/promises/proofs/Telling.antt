@@ -25,7 +25,7 @@ use Rattle.layout.specs.Write.{Outcome, writeImage, toldMade}
 use Rattle.layout.specs.Edit.{editEntry}
 use Rattle.laws.proofs.Choices.{both}
 use Rattle.laws.proofs.Calls.{Stands, one, two, three, chosen-stands, stands-chosen}
-use Rattle.promises.specs.Words.{Numbered, fboss, vpd, tiny, KnownEdition, Serves, Counts, IsRefused, tellsCheck, tellsWrite, tellsEdit}
+use Rattle.promises.specs.Words.{FormatNumber, fboss, vpd, tiny, KnownEdition, Serves, Counts, IsRefused, tellsCheck, tellsWrite, tellsEdit}
 use Rattle.promises.specs.Numbers.{imageNumbers, writeNumbers}
 use Rattle.promises.proofs.FormatNumbers.{Low, tabled}
 use Rattle.promises.proofs.Refusals.{farthest}
@@ -44,12 +44,12 @@ known-edition e q = let b = both (leb 1 e) (leb e 2) q in (leb-true 1 e (b .0), 
 pub serves-chosen : {f e : ℕ} {g : Format} → Serves f e g → chosen f e ≡ Known g
 serves-chosen {f} {e} {g} s = go (s .number) (edition-known e (s .edition))
   where
-    go : {f : ℕ} {g : Format} → Numbered f g → knownEdition e ≡ true → chosen f e ≡ Known g
+    go : {f : ℕ} {g : Format} → FormatNumber f g → knownEdition e ≡ true → chosen f e ≡ Known g
     go fboss k = stands-chosen 1 e Fboss (one refl) k
     go vpd k = stands-chosen 2 e Vpd (two refl refl) k
     go tiny k = stands-chosen 3 e Tiny (three refl refl refl) k
 
-stands-numbered : (f : ℕ) (g : Format) → Stands f g → Numbered f g
+stands-numbered : (f : ℕ) (g : Format) → Stands f g → FormatNumber f g
 stands-numbered f Fboss (one e) = rw (eqb-true f 1 e) fboss
 stands-numbered f Vpd (two d e) = rw (eqb-true f 2 e) vpd
 stands-numbered f Tiny (three c d e) = rw (eqb-true f 3 e) tiny

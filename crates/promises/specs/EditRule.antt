@@ -1,5 +1,5 @@
 -- Promise 6, the edit rule: every other entry's bytes are kept, in order; the value's length has its shortest form; the end is the writer's; then all is FFh.
--- An edit is taken exactly where the image is accepted, the entry is there and named, the value meets its rule, and it fits.
+-- An edit is taken exactly where the image is accepted, the entry is there and named, the value meets its rule (Rules), and it fits an output of at most 65,536 bytes.
 -- Assumes nothing.
 use Prim.Native.Nat.{ℕ, _+_, _-_, _≤_}
 use mathlib.Core.Path.{_≡_}
@@ -81,11 +81,12 @@ pub record Editable (f e : ℕ) (image : List ℕ) (count : ℕ) (list : ListOf 
   pub short : length out ≤ 65536
   pub fits : Fits (list .format) (editedSize (list .format) (list .end) entry (length v)) out
 
--- the edits of an accepted image; of a refused one every edit is refused (Lookups)
+-- the edits of an accepted image; of a refused one every edit is refused (Lookups; where the output is too long, Asked)
 pub record Edits (f e : ℕ) (image : List ℕ) (count : ℕ) : Type 0 where
   pub list : ListOf f e image count
   pub taken-is : (i : ℕ) (v out : List ℕ) → tellsEdit f e image i v out .number ≡ 0 → Editable f e image count list i v out
-  pub is-taken : (i : ℕ) (v out : List ℕ) → Editable f e image count list i v out → tellsEdit f e image i v out .number ≡ 0
+  pub is-taken : (i : ℕ) (v out : List ℕ) (x : Editable f e image count list i v out) →
+      Counts (tellsEdit f e image i v out) (editedSize (list .format) (list .end) (x .entry) (length v))
 
 pub record EditRule : Type 0 where
   pub puts : (f e : ℕ) (image : List ℕ) (i : ℕ) (v out : List ℕ) (m : ℕ) → Counts (tellsEdit f e image i v out) m → Edited f e image i v out m

@@ -1,15 +1,16 @@
 -- Entry, value and walk belong to the list: entry n is the list's record n, its value is that record's, and a walk gives the records one by one.
 -- Assumes nothing.
-use Prim.Native.Nat.{ℕ, zero, suc, _+_, _-_, _≤_}
+use Prim.Native.Nat.{ℕ, zero, suc, _+_, _-_, _≤_, _<_}
 use mathlib.Core.Path.{_≡_}
 use mathlib.Core.List.{List, [], _∷_, _++_, map}
 use lib.ListN.{length, take, replicate}
 use Rattle.layout.specs.declared.Entry.{Entry}
 use Rattle.layout.specs.declared.Refusal.{Refusal}
+use Rattle.layout.specs.declared.Located.{Located}
 use Rattle.layout.specs.Bytes.{partAt, refusal}
 use Rattle.layout.specs.Walk.{Content}
 use Rattle.layout.specs.Read.{limit}
-use Rattle.layout.specs.Calls.{Told, told, toldRefusal, toldLookup, bytesAt, verdict, valueAt, Step, stepFrom}
+use Rattle.layout.specs.Calls.{Told, told, toldRefusal, toldLookup, toldLocated, bytesAt, verdict, valueAt, stringAt, Step, stepFrom}
 use Rattle.laws.specs.Contents.{said}
 use Rattle.promises.specs.Words.{Counts, Refuses, IsRefused, Item, Lists, tellsCheck, tellsList, tellsEntry, tellsValue, tellsEdit}
 
@@ -36,6 +37,8 @@ pub record OneByOne (f e : ℕ) (image : List ℕ) (n : ℕ) : Type 0 where
   pub entries : List Entry
   pub counted : length entries ≡ n
   pub listed : Lists f e image entries
+  -- 12 exactly where there are fewer records than entries
+  pub tooFew : (records : List Entry) → length records < n → Refuses (tellsList f e image records) 12 0
   -- entry i is the list's record i, and there is none exactly from n on
   pub entry : (i : ℕ) (x : Entry) → Item entries i x → tellsEntry f e image i ≡ given x
   pub noEntry : (i : ℕ) → n ≤ i → Refuses (tellsEntry f e image i) 13 0
@@ -63,14 +66,15 @@ pub record StepRule (f e n : ℕ) (image : List ℕ) : Type 0 where
   pub onward : tellsEntry f e image n .number ≡ 0 → stepFrom f e n image .next ≡ n + 1
   pub unmoved : IsRefused (tellsEntry f e image n) → stepFrom f e n image .next ≡ n
 
--- the part that a call gives alone, and number and place by another
-pub record Twin (f e : ℕ) (image : List ℕ) (n : ℕ) : Type 0 where
-  pub number : verdict (valueAt f e image n) .number ≡ tellsValue f e image n .number
-  pub place : verdict (valueAt f e image n) .place .0 ≡ tellsValue f e image n .place
-  pub empty : IsRefused (tellsValue f e image n) → bytesAt image (valueAt f e image n) ≡ []
+-- a call that gives a part gives it alone, and another of the same arguments gives number and place: of a value, and of a string
+pub record Twin (image : List ℕ) (x : Located) : Type 0 where
+  pub number : verdict x .number ≡ toldLocated x .number
+  pub place : verdict x .place .0 ≡ toldLocated x .place
+  pub empty : IsRefused (toldLocated x) → bytesAt image x ≡ []
 
 pub record Lookups : Type 0 where
   pub accepted : (f e : ℕ) (image : List ℕ) (n : ℕ) → Counts (tellsCheck f e image) n → OneByOne f e image n
   pub refused : (f e : ℕ) (image : List ℕ) → IsRefused (tellsCheck f e image) → AsChecked f e image
   pub stepped : (f e n : ℕ) (image : List ℕ) → StepRule f e n image
-  pub twin : (f e : ℕ) (image : List ℕ) (n : ℕ) → Twin f e image n
+  pub value : (f e : ℕ) (image : List ℕ) (n : ℕ) → Twin image (valueAt f e image n)
+  pub string : (f e : ℕ) (image : List ℕ) (number : ℕ) → Twin image (stringAt f e image number)

@@ -15,14 +15,14 @@ pub data One : Format → ℕ → Type 0 where
   tiny61 : One Tiny 0x61
   tiny62 : One Tiny 0x62
 
--- edition 2 names those and FBOSS 17 to 20, VPD FEh, Tiny 80h and 81h
+-- edition 2 names those, and these: FBOSS 17 to 20, VPD FEh, Tiny 80h and 81h
 pub data Two : Format → ℕ → Type 0 where
   fboss : {c : ℕ} → 17 ≤ c → c ≤ 20 → Two Fboss c
   vpdFE : Two Vpd 0xFE
   tiny80 : Two Tiny 0x80
   tiny81 : Two Tiny 0x81
 
--- 01's term "names": a known edition names a code of a format
+-- 01's term "names": an edition names a code of a format. It is asked of known editions
 pub data Named (format : Format) (e c : ℕ) : Type 0 where
   sinceOne : 1 ≤ e → One format c → Named format e c
   sinceTwo : 2 ≤ e → Two format c → Named format e c

@@ -1,4 +1,4 @@
--- No refusal but by the table: which numbers each call can give (docs/C-INTERFACE.md, "The order"), and what a refusal holds beside its number and its place.
+-- Which numbers of the table each call can give (docs/C-INTERFACE.md, "The order"), and what a refusal holds beside its number and its place.
 -- Assumes nothing.
 use Prim.Native.Nat.{ℕ}
 use mathlib.Core.Path.{_≡_}

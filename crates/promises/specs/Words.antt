@@ -18,10 +18,10 @@ use Rattle.laws.specs.Contents.{said}
 -- ---- formats and editions
 
 -- document 01's number of a format
-pub data Numbered : ℕ → Format → Type 0 where
-  fboss : Numbered 1 Fboss
-  vpd : Numbered 2 Vpd
-  tiny : Numbered 3 Tiny
+pub data FormatNumber : ℕ → Format → Type 0 where
+  fboss : FormatNumber 1 Fboss
+  vpd : FormatNumber 2 Vpd
+  tiny : FormatNumber 3 Tiny
 
 -- 01's term "edition": the known ones are 1 and 2
 abbrev pub KnownEdition : ℕ → Type 0
@@ -29,7 +29,7 @@ KnownEdition e = (1 ≤ e) × (e ≤ 2)
 
 -- a call's format number stands for this format, and its edition is known
 pub record Serves (f e : ℕ) (format : Format) : Type 0 where
-  pub number : Numbered f format
+  pub number : FormatNumber f format
   pub edition : KnownEdition e
 
 -- ---- what the calls tell

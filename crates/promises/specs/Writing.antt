@@ -1,4 +1,5 @@
--- A write: what is put out, and that it is taken exactly where every field is named, inside, meets its rule, comes once and in order, what is required is there, and it fits.
+-- A write: what is put out, and that it is taken exactly where every field is named, inside, meets its rule (Rules), comes once and in order, what is required is there,
+-- and it fits an output of at most 65,536 bytes.
 -- Assumes nothing.
 use Prim.Native.Nat.{ℕ, _+_, _-_, _≤_}
 use mathlib.Core.Path.{_≡_}
@@ -81,4 +82,5 @@ pub record Writable (f e : ℕ) (fields : List Field) (values out : List ℕ) : 
 pub record Writing : Type 0 where
   pub puts : (f e : ℕ) (fields : List Field) (values out : List ℕ) (n : ℕ) → Counts (tellsWrite f e fields values out) n → Wrote f e fields values out n
   pub taken-is : (f e : ℕ) (fields : List Field) (values out : List ℕ) → tellsWrite f e fields values out .number ≡ 0 → Writable f e fields values out
-  pub is-taken : (f e : ℕ) (fields : List Field) (values out : List ℕ) → Writable f e fields values out → tellsWrite f e fields values out .number ≡ 0
+  pub is-taken : (f e : ℕ) (fields : List Field) (values out : List ℕ) (x : Writable f e fields values out) →
+      Counts (tellsWrite f e fields values out) (headerSize (x .format) + entriesSize (x .format) (map (fieldSays f values) fields) + endSize (x .format))

@@ -1,0 +1,103 @@
+-- The rules of named entries (7), as document 01's lines have them ("FBOSS v5", "VPD 2.0", "Tiny version 2", "Writing, editing, walking"), apart from the definitions' tests.
+-- Assumes nothing.
+use Prim.Native.Nat.{ℕ, _+_, _*_, _/_, _≤_, _<_}
+use mathlib.Core.Path.{_≡_}
+use mathlib.Core.List.{List, [], _∷_}
+use mathlib.Core.Logic.{_⊎_}
+use mathlib.Core.Bool.{true}
+use lib.ListN.{length}
+use Rattle.layout.specs.declared.Format.{Format}
+use Rattle.layout.specs.declared.Format.the-variants.{Fboss, Vpd, Tiny}
+use Rattle.layout.specs.Editions.{shape}
+use Rattle.layout.specs.Walk.{Content}
+use Rattle.layout.specs.Read.{readerRule}
+use Rattle.layout.specs.Write.{writerRule}
+use Rattle.layout.specs.Edit.{editRule}
+use Rattle.laws.specs.Grammar.{grammar, EntryOf, Each}
+use Rattle.promises.specs.Names.{Named}
+
+-- one is as good as the other
+pub record Exactly (A B : Type 0) : Type 0 where
+  pub to : A → B
+  pub from : B → A
+
+-- x is one of a to b
+abbrev pub Between : ℕ → ℕ → ℕ → Type 0
+Between a b x = (a ≤ x) × (x ≤ b)
+
+-- ---- FBOSS
+
+-- a byte of text
+abbrev pub Printable : ℕ → Type 0
+Printable b = Between 0x20 0x7E b
+
+-- text of any length: 1, 2, 6, 7, 11, 12, 14, 15, 16
+abbrev pub TextCode : ℕ → Type 0
+TextCode code = Between 1 2 code ⊎ (Between 6 7 code ⊎ (Between 11 12 code ⊎ Between 14 16 code))
+
+pub data FbossValue (code : ℕ) : List ℕ → Type 0 where
+  text : {v : List ℕ} → TextCode code → Each Printable v → FbossValue code v
+  eight : {v : List ℕ} → code ≡ 3 → length v ≡ 8 → Each Printable v → FbossValue code v
+  twelve : {v : List ℕ} → Between 4 5 code → length v ≡ 12 → Each Printable v → FbossValue code v
+  -- eight digits YYYYMMDD, month 01 to 12, day 01 to 31
+  date : (a b c d m n x y : ℕ) → code ≡ 13 → a ≤ 9 → b ≤ 9 → c ≤ 9 → d ≤ 9 → m ≤ 9 → n ≤ 9 → x ≤ 9 → y ≤ 9 →
+      Between 1 12 (m * 10 + n) → Between 1 31 (x * 10 + y) →
+      FbossValue code ((0x30 + a) ∷ (0x30 + b) ∷ (0x30 + c) ∷ (0x30 + d) ∷ (0x30 + m) ∷ (0x30 + n) ∷ (0x30 + x) ∷ (0x30 + y) ∷ [])
+  number : {v : List ℕ} → Between 8 10 code → length v ≡ 1 → FbossValue code v
+  addresses : {v : List ℕ} → Between 17 20 code → length v ≡ 8 → FbossValue code v
+
+-- ---- VPD
+
+-- a-z, A-Z, 0-9 or underscore
+abbrev pub KeyByte : ℕ → Type 0
+KeyByte b = Between 0x61 0x7A b ⊎ (Between 0x41 0x5A b ⊎ (Between 0x30 0x39 b ⊎ (b ≡ 0x5F)))
+
+pub data VpdKey (code : ℕ) (key : List ℕ) : Type 0 where
+  string : code ≡ 0x01 → 1 ≤ length key → Each KeyByte key → VpdKey code key
+  info : code ≡ 0xFE → VpdKey code key
+
+pub data VpdValue (code : ℕ) (v : List ℕ) : Type 0 where
+  string : code ≡ 0x01 → VpdValue code v
+  info : code ≡ 0xFE → length v ≡ 4 → VpdValue code v
+
+-- ---- Tiny
+
+-- a revision: major 0 to 99 or 128 to 153, minor 0 to 99
+abbrev pub Revision : ℕ → ℕ → Type 0
+Revision major minor = ((major ≤ 99) ⊎ Between 128 153 major) × (minor ≤ 99)
+
+pub data TinyValue (code : ℕ) : List ℕ → Type 0 where
+  pool : {v : List ℕ} → code ≡ 0x01 → TinyValue code v
+  any : {v : List ℕ} → (code ≡ 0x10) ⊎ ((code ≡ 0x11) ⊎ (code ≡ 0x60)) → TinyValue code v
+  identity : (s p major minor x y : ℕ) → Between 0x61 0x62 code → Revision major minor → TinyValue code (s ∷ p ∷ major ∷ minor ∷ x ∷ y ∷ [])
+  -- the batch number, low byte first, is at most 9999
+  batched : (s p major minor x y low high : ℕ) → Between 0x80 0x81 code → Revision major minor → low + high * 256 ≤ 9999 →
+      TinyValue code (s ∷ p ∷ major ∷ minor ∷ x ∷ y ∷ low ∷ high ∷ [])
+
+-- ---- any format
+
+abbrev pub KeyRule : Format → ℕ → List ℕ → Type 0
+KeyRule Fboss code key = Unit {0}
+KeyRule Vpd code key = VpdKey code key
+KeyRule Tiny code key = Unit {0}
+
+abbrev pub ValueRule : Format → ℕ → List ℕ → Type 0
+ValueRule Fboss code v = FbossValue code v
+ValueRule Vpd code v = VpdValue code v
+ValueRule Tiny code v = TinyValue code v
+
+-- the length of a value that is written: FBOSS and a Tiny pool to 255, another Tiny value as its tag says
+abbrev pub LengthRule : Format → ℕ → ℕ → Type 0
+LengthRule Fboss code n = n ≤ 255
+LengthRule Vpd code n = Unit {0}
+LengthRule Tiny code n = ((code < 16) × (n ≤ 255)) ⊎ ((16 ≤ code) × (n ≡ code / 16))
+
+-- the reader's rule is asked of an entry, whose value has the length that its frame says; the writer's and the edit's of any value
+pub record Rules : Type 0 where
+  pub reader : (format : Format) (e : ℕ) (bytes : List ℕ) (c : Content) → Named format e (c .code) → EntryOf (grammar format) bytes c →
+      Exactly (readerRule (shape format) c ≡ true) (KeyRule format (c .code) (c .key) × ValueRule format (c .code) (c .value))
+  pub writer : (format : Format) (e : ℕ) (c : Content) → Named format e (c .code) →
+      Exactly (writerRule (shape format) c ≡ true)
+      (KeyRule format (c .code) (c .key) × LengthRule format (c .code) (length (c .value)) × ValueRule format (c .code) (c .value))
+  pub edit : (format : Format) (e code : ℕ) (v : List ℕ) → Named format e code →
+      Exactly (editRule (shape format) code v ≡ true) (LengthRule format code (length v) × ValueRule format code v)
