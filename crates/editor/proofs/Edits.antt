@@ -9,8 +9,7 @@ use native.Mathlib.Nat.{add-zero}
 use lib.ListN.{length, take, drop, length-append, take-append-drop}
 use lib.Seq.{length-take-le}
 use lib.Dec.{ltb}
-use borrow.Author.Tests.{lt-ltb, le-ltb}
-use Rattle.layout.specs.declared.Format.{Format}
+use borrow.Author.Tests.{lt-ltb}
 use Rattle.layout.specs.declared.Frame.{Frame}
 use Rattle.layout.specs.declared.Chosen.{Chosen}
 use Rattle.layout.specs.declared.Chosen.the-variants.{Known, Unknown}
@@ -20,11 +19,12 @@ use Rattle.layout.specs.Bytes.{if, part, refusal}
 use Rattle.layout.specs.Shape.{Shape}
 use Rattle.layout.specs.Editions.{shape, chosen, names}
 use Rattle.layout.specs.Walk.{Raw, flat}
-use Rattle.layout.specs.Read.{limit, Read, bad, readAs, readChosen, readImage}
+use Rattle.layout.specs.Read.{limit, Read}
 use Rattle.layout.specs.Write.{Outcome, refuse, put, imageOf}
 use Rattle.layout.specs.Edit.{revalued, editedBytes, editRule, Allowed, allowed, denied, mayEdit, editAllowed, editRead, editChosen, editEntry}
 use Rattle.laws.specs.Grammar.{Grammar, grammar}
-use Rattle.laws.proofs.Frames.{IsRaw, raw-size, part-between}
+use Rattle.laws.proofs.Frames.{raw-size, raw-at, part-between}
+use Rattle.laws.proofs.Calls.{edit-read}
 use Rattle.frames.specs.declared.Spot.the-variants.{At, Nowhere}
 use Rattle.frames.specs.Spots.{spotAt}
 use Rattle.frames.proofs.Spots.{Sized, Spotted, OnSpot, spot-walked}
@@ -49,22 +49,8 @@ module _ (f e : ℕ) (image : List ℕ) (i : ℕ) (v out : List ℕ) where
       go (Known g) = rw (test (ltb limit (length image)))
       go (Unknown n) = refl
 
-  -- an output that is not too long
-  edit-read : length out ≤ limit → editEntry f e image i v out ≡ editRead (readImage f e image) e i v out
-  unfolding editEntry readImage
-  edit-read le = go (chosen f e)
-    where
-      by-test : (g : Format) (t : Bool) → if (t || ltb limit (length out)) (λ _. refuse (refusal 2 0) out) (λ _. editRead (readAs g e image) e i v out)
-          ≡ editRead (if t (λ _. bad 2 0) (λ _. readAs g e image)) e i v out
-      by-test g true = refl
-      by-test g false = rw (le-ltb limit (length out) le)
-
-      go : (x : Chosen) → editChosen x e image i v out ≡ editRead (readChosen x e image) e i v out
-      go (Known g) = by-test g (ltb limit (length image))
-      go (Unknown n) = refl
-
   pub edit-refused : (r : Refusal) → length out ≤ limit → taken f e image ≡ Isnt r → editEntry f e image i v out ≡ refuse r out
-  edit-refused r le q = edit-read le ∙ ap (λ (x : Read). editRead x e i v out) (not-took f e image r q)
+  edit-refused r le q = edit-read f e image i v out le ∙ ap (λ (x : Read). editRead x e i v out) (not-took f e image r q)
 
 -- ---- the entry among the others
 
@@ -110,9 +96,6 @@ module _ (H past bytes after rest : List ℕ) {image : List ℕ} (is : image ≡
       let long : length x ≡ a = omega (arith, length-append H (past ++ bytes), length-append past bytes) in
       let split : image ≡ x ++ (after ++ rest) = is ∙ simp append-assoc in
       rw (en, split) (part-between x after rest a long)
-
-raw-at : {G : Grammar} {r : Raw} → IsRaw G r → r .frame .at ≤ r .frame .size
-raw-at i = rw (i .framed) (omega arith)
 
 revalued-spliced : (S : Shape) (r : Raw) (v past after : List ℕ) → past ++ (revalued S r v ++ after) ≡ spliced S (r .frame .code) (past ++ take (r .frame .at) (r .bytes)) v after
 unfolding revalued spliced

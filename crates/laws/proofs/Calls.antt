@@ -3,7 +3,7 @@
 use Prim.Native.Nat.{ℕ, zero, suc, _+_, _≤_, _<_}
 use mathlib.Core.Path.{_≡_, refl, ap, sym, _∙_}
 use mathlib.Core.List.{List, [], _∷_, _++_, map}
-use mathlib.Core.Bool.{Bool, true, false}
+use mathlib.Core.Bool.{Bool, true, false, _||_}
 use native.Mathlib.Omega.{arith}
 use lib.ListN.{length}
 use lib.Dec.{ltb, eqb}
@@ -13,12 +13,14 @@ use Rattle.layout.specs.declared.Format.the-variants.{Fboss, Vpd, Tiny}
 use Rattle.layout.specs.declared.Chosen.{Chosen}
 use Rattle.layout.specs.declared.Chosen.the-variants.{Known, Unknown}
 use Rattle.layout.specs.declared.Checked.the-variants.{Accepted, Refused}
-use Rattle.layout.specs.Bytes.{if}
+use Rattle.layout.specs.Bytes.{if, refusal}
 use Rattle.layout.specs.Shape.{Shape}
 use Rattle.layout.specs.Editions.{shape, knownEdition, withEdition, chosen}
 use Rattle.layout.specs.Walk.{Raw, Content, content, flat}
 use Rattle.layout.specs.Read.{limit, complete, codesOf, Read, accepted, refused, bad, readAs, readChosen, readImage}
 use Rattle.layout.specs.Calls.{entriesOf, checkedBy, checkImage}
+use Rattle.layout.specs.Write.{refuse}
+use Rattle.layout.specs.Edit.{editRead, editChosen, editEntry}
 use Rattle.laws.specs.Grammar.{grammar, Lawful}
 use Rattle.laws.proofs.Walking.{Frames}
 use Rattle.laws.proofs.Images.{Accepts, imageFrom, made-accepted, accepted-made}
@@ -120,3 +122,19 @@ check-found f e image n q = go (readImage f e image) refl q
     go (accepted g start rs) r q =
         record { format = g; start = start; raws = rs; reading = accepted-reading f e image g start rs r; count = (let c : n ≡ length rs = cc in c) }
     go (refused r) x q = let z : _≡_ {A = ℕ} 0 1 = cc in absurd (omega arith)
+
+-- ---- edits
+
+-- an edit into an output that is not too long, by what its image is read as
+pub edit-read : (f e : ℕ) (image : List ℕ) (i : ℕ) (v out : List ℕ) → length out ≤ limit → editEntry f e image i v out ≡ editRead (readImage f e image) e i v out
+unfolding editEntry readImage
+edit-read f e image i v out le = go (chosen f e)
+  where
+    by-test : (g : Format) (t : Bool) → if (t || ltb limit (length out)) (λ _. refuse (refusal 2 0) out) (λ _. editRead (readAs g e image) e i v out)
+        ≡ editRead (if t (λ _. bad 2 0) (λ _. readAs g e image)) e i v out
+    by-test g true = refl
+    by-test g false = rw (le-ltb limit (length out) le)
+
+    go : (x : Chosen) → editChosen x e image i v out ≡ editRead (readChosen x e image) e i v out
+    go (Known g) = by-test g (ltb limit (length image))
+    go (Unknown n) = refl

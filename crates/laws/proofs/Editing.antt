@@ -1,11 +1,11 @@
 -- An edit of one value: the edited entry is an entry of the grammar again, all others stay, and only that value differs.
 -- Assumes nothing.
-use Prim.Native.Nat.{ℕ, zero, suc, _+_, _-_, _≤_, _<_}
+use Prim.Native.Nat.{ℕ, zero, suc, _+_, _≤_}
 use mathlib.Core.Path.{_≡_, refl, ap, ap₂, sym, _∙_}
 use mathlib.Core.List.{List, [], _∷_, _++_, map}
 use mathlib.Core.Bool.{Bool, true, false, _&&_}
 use native.Mathlib.Omega.{arith}
-use lib.ListN.{length, take, length-append}
+use lib.ListN.{length, take}
 use lib.Seq.{take-at}
 use Rattle.layout.specs.declared.Frame.{Frame}
 use Rattle.layout.specs.declared.Head.{Head}
@@ -14,11 +14,11 @@ use Rattle.layout.specs.Shape.{Shape, frameOf}
 use Rattle.layout.specs.Editions.{names}
 use Rattle.layout.specs.Walk.{Raw, Content, content, flat}
 use Rattle.layout.specs.Read.{limit, codesOf}
-use Rattle.layout.specs.Edit.{revalued, editedBytes, editRule, Allowed, allowed, denied, mayEdit}
+use Rattle.layout.specs.Edit.{revalued, editedBytes, editRule, allowed, denied, mayEdit}
 use Rattle.laws.specs.Contents.{valued, replaced}
 use Rattle.laws.specs.Grammar.{Grammar}
-use Rattle.laws.proofs.Format.{Laws, headFrom}
-use Rattle.laws.proofs.Frames.{IsRaw, frameFrom, raw-content}
+use Rattle.laws.proofs.Format.{Laws}
+use Rattle.laws.proofs.Frames.{IsRaw, raw-content}
 use Rattle.laws.proofs.Walking.{Frames}
 use Rattle.laws.proofs.Judging.{RuledAt}
 use Rattle.laws.proofs.Choices.{both}
@@ -73,6 +73,13 @@ may-editable S e p (r ∷ rs) zero v q = go (names S e (r .frame .code)) (S .len
     go true true n k q = let b = both (S .lengthRule (r .frame .code) (length v)) (S .valueRule (r .frame .code) v) k in (n, b .0, b .1)
 may-editable S e p (r ∷ rs) (suc i) v q = may-editable S e (p + r .frame .size) rs i v q
 
+-- and such an edit is allowed
+pub editable-may : (S : Shape) (e p : ℕ) (rs : List Raw) (i : ℕ) (v : List ℕ) → Editable S e rs i v → mayEdit S e p rs i v ≡ allowed
+unfolding mayEdit editRule
+editable-may S e p [] i v x = absurd x
+editable-may S e p (r ∷ rs) zero v x = rw (x .0, x .1, x .2)
+editable-may S e p (r ∷ rs) (suc i) v x = editable-may S e (p + r .frame .size) rs i v x
+
 -- the new value meets the rule of the entry
 pub editable-ruled : (S : Shape) (e : ℕ) (rs : List Raw) (i : ℕ) (v : List ℕ) → Editable S e rs i v → RuledAt S (map content rs) i v
 unfolding content
@@ -80,28 +87,33 @@ editable-ruled S e [] i v x = absurd x
 editable-ruled S e (r ∷ rs) zero v x = x .2
 editable-ruled S e (r ∷ rs) (suc i) v x = editable-ruled S e rs i v x
 
+-- an entry with another value, by its parts
+pub revalued-is : (S : Shape) {G : Grammar} (r : Raw) (v : List ℕ) (i : IsRaw G r) → revalued S r v ≡ i .front ++ (S .lens (i .code) (length v) ++ v)
+unfolding revalued
+revalued-is S r v i =
+    let code : r .frame .code ≡ i .code = ap (λ (f : Frame). f .code) (i .framed) in
+    let at : r .frame .at ≡ length (i .front) = ap (λ (f : Frame). f .at) (i .framed) in
+    let front : take (r .frame .at) (r .bytes) ≡ i .front = rw (i .is, at) (take-at (i .front) (i .lens ++ i .value) (length (i .front)) refl) in
+    ap₂ (λ (x : List ℕ) (c : ℕ). x ++ (S .lens c (length v) ++ v)) front code
+
 module _ {S : Shape} {G : Grammar} (L : Laws S G) where
   -- the entry with another value is an entry of the grammar, and says the same but for the value
   revalued-raw : (r : Raw) (v : List ℕ) → IsRaw G r → S .lengthRule (r .frame .code) (length v) ≡ true → length v ≤ limit →
       IsRaw G (revaluedRaw S r v) × (content (revaluedRaw S r v) ≡ valued (content r) v)
-  unfolding revaluedRaw revalued
+  unfolding revaluedRaw
   revalued-raw r v i ok short =
       let code : r .frame .code ≡ i .code = ap (λ (f : Frame). f .code) (i .framed) in
-      let at : r .frame .at ≡ length (i .front) = ap (λ (f : Frame). f .at) (i .framed) in
-      let lens : List ℕ = S .lens (r .frame .code) (length v) in
-      let front : take (r .frame .at) (r .bytes) ≡ i .front = rw (i .is, at) (take-at (i .front) (i .lens ++ i .value) (length (i .front)) refl) in
-      let heads : headOf (r .frame) ≡ headFrom (i .front) (i .code) (i .key) = ap headOf (i .framed) in
       let j : IsRaw G (revaluedRaw S r v) =
       record {
         front = i .front;
-        lens = lens;
+        lens = S .lens (i .code) (length v);
         code = i .code;
         key = i .key;
         value = v;
-        is = ap (λ (x : List ℕ). x ++ (lens ++ v)) front;
+        is = revalued-is S r v i;
         opens = i .opens;
-        says = rw (← code) (L .lens-made (r .frame .code) (length v) ok short);
-        framed = ap₂ (λ (h : Head) (n : ℕ). frameOf h (length v) (n + length lens)) heads at;
+        says = L .lens-made (i .code) (length v) (rw code at ok) short;
+        framed = ap (λ (f : Frame). frameOf (headOf f) (length v) (f .at + length (S .lens (f .code) (length v)))) (i .framed);
       } in
       let old : content r ≡ record { code = i .code; key = i .key; value = i .value } = raw-content L r i in
       (j, raw-content L (revaluedRaw S r v) j ∙ sym (ap (λ (c : Content). valued c v) old))

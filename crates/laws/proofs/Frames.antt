@@ -47,6 +47,10 @@ pub record IsRaw (G : Grammar) (r : Raw) : Type 0 where
 pub raw-size : {G : Grammar} {r : Raw} → IsRaw G r → length (r .bytes) ≡ r .frame .size
 raw-size i = rw (i .is, i .framed) (simp length-append (omega arith))
 
+-- what opens an entry lies inside it
+pub raw-at : {G : Grammar} {r : Raw} → IsRaw G r → r .frame .at ≤ r .frame .size
+raw-at i = rw (i .framed) (omega arith)
+
 -- a part that stands between two others
 pub part-between : (a x z : List ℕ) (n : ℕ) → length a ≡ n → part n (length x) (a ++ (x ++ z)) ≡ x
 unfolding part

@@ -1,8 +1,8 @@
 -- What an edit that is not refused has found and left.
 -- Assumes nothing.
-use Prim.Native.Nat.{ℕ, zero, suc, _+_, _≤_}
-use mathlib.Core.Path.{_≡_, refl, sym}
-use mathlib.Core.List.{List, [], _∷_, _++_}
+use Prim.Native.Nat.{ℕ, zero, suc, _≤_}
+use mathlib.Core.Path.{_≡_, refl}
+use mathlib.Core.List.{List, [], _∷_}
 use mathlib.Core.Bool.{Bool, true, false, _||_}
 use native.Mathlib.Omega.{arith}
 use lib.ListN.{length, length-append}
@@ -17,11 +17,10 @@ use Rattle.layout.specs.Shape.{Shape}
 use Rattle.layout.specs.Editions.{shape, chosen}
 use Rattle.layout.specs.Walk.{Raw}
 use Rattle.layout.specs.Read.{limit, Read, accepted, refused, readAs, readImage}
-use Rattle.layout.specs.Write.{Outcome, refuse, put, imageOf}
+use Rattle.layout.specs.Write.{Outcome, refuse, imageOf}
 use Rattle.layout.specs.Edit.{revalued, editedBytes, Allowed, allowed, denied, mayEdit, editAllowed, editRead, editChosen, editEntry}
 use Rattle.laws.proofs.Editing.{Editable, may-editable}
-use Rattle.laws.proofs.Choices.{false-true}
-use Rattle.laws.proofs.Calls.{Reading, image-read, accepted-reading}
+use Rattle.laws.proofs.Calls.{Reading, accepted-reading, edit-read}
 use Rattle.promises.proofs.Output.{entries-shorter, Took, put-took, never-unwritten}
 
 pub record Done (f e : ℕ) (image : List ℕ) (i : ℕ) (v out : List ℕ) (m : ℕ) : Type 0 where
@@ -47,40 +46,45 @@ value-fits {e = e} {i = i} {v = v} d =
     let h = value-shorter S e (d .raws) i v (d .editable) in
     omega (arith, entries-shorter S (editedBytes S (d .raws) i v), d .took .fits, d .short)
 
-neither : (a b : Bool) → a || b ≡ false → (a ≡ false) × (b ≡ false)
-neither true b e = false-true (sym e)
-neither false b e = (refl, e)
+module _ (f e : ℕ) (image : List ℕ) (i : ℕ) (v out : List ℕ) (m : ℕ) where
+  -- its output is not too long
+  pub edit-short : editEntry f e image i v out .answer ≡ Wrote m → length out ≤ limit
+  unfolding editEntry
+  edit-short q = choose (chosen f e) q
+    where
+      tests : (g : Format) (s t : Bool) → ltb limit (length out) ≡ t →
+          if {A = Outcome} (s || t) (λ _. refuse (refusal 2 0) out) (λ _. editRead (readAs g e image) e i v out) .answer ≡ Wrote m → length out ≤ limit
+      tests g true t l q = never-unwritten q
+      tests g false true l q = never-unwritten q
+      tests g false false l q = ltb-false limit (length out) l
 
-pub edit-done : (f e : ℕ) (image : List ℕ) (i : ℕ) (v out : List ℕ) (m : ℕ) → editEntry f e image i v out .answer ≡ Wrote m → Done f e image i v out m
-unfolding editEntry
-edit-done f e image i v out m q = choose (chosen f e) refl q
-  where
-    allows : (g h : Format) (start : ℕ) (rs : List Raw) (a : Allowed) → chosen f e ≡ Known g → ltb limit (length image) || ltb limit (length out) ≡ false → readAs g e image ≡ accepted h start rs →
-        mayEdit (shape h) e start rs i v ≡ a → editAllowed a (shape h) rs i v out .answer ≡ Wrote m → Done f e image i v out m
-    allows g h start rs allowed k l r a q =
-        let short = neither (ltb limit (length image)) (ltb limit (length out)) l in
-        let read : readImage f e image ≡ accepted h start rs = image-read f e image g (accepted h start rs) k (short .0) r in
-        record {
-          format = h;
-          start = start;
-          raws = rs;
-          reading = accepted-reading f e image h start rs read;
-          short = ltb-false limit (length out) (short .1);
-          editable = may-editable (shape h) e start rs i v a;
-          took = rw (k, l, r, a) (put-took (shape h) (imageOf (shape h) (editedBytes (shape h) rs i v)) out m q);
-        }
-    allows g h start rs (denied x) k l r a q = never-unwritten q
+      choose : (x : Chosen) → editChosen x e image i v out .answer ≡ Wrote m → length out ≤ limit
+      choose (Known g) q = tests g (ltb limit (length image)) (ltb limit (length out)) refl q
+      choose (Unknown n) q = never-unwritten q
 
-    reads : (g : Format) (x : Read) → chosen f e ≡ Known g → ltb limit (length image) || ltb limit (length out) ≡ false → readAs g e image ≡ x →
-        editRead x e i v out .answer ≡ Wrote m → Done f e image i v out m
-    reads g (accepted h start rs) k l r q = allows g h start rs (mayEdit (shape h) e start rs i v) k l r refl q
-    reads g (refused x) k l r q = never-unwritten q
+  pub edit-done : editEntry f e image i v out .answer ≡ Wrote m → Done f e image i v out m
+  edit-done q = reads (readImage f e image) refl (rw by-read at q)
+    where
+      short : length out ≤ limit
+      short = edit-short q
 
-    bounded : (g : Format) (b : Bool) → chosen f e ≡ Known g → ltb limit (length image) || ltb limit (length out) ≡ b →
-        if {A = Outcome} b (λ _. refuse (refusal 2 0) out) (λ _. editRead (readAs g e image) e i v out) .answer ≡ Wrote m → Done f e image i v out m
-    bounded g true k l q = never-unwritten q
-    bounded g false k l q = reads g (readAs g e image) k l refl q
+      by-read : editEntry f e image i v out ≡ editRead (readImage f e image) e i v out
+      by-read = edit-read f e image i v out short
 
-    choose : (x : Chosen) → chosen f e ≡ x → editChosen x e image i v out .answer ≡ Wrote m → Done f e image i v out m
-    choose (Known g) k q = bounded g (ltb limit (length image) || ltb limit (length out)) k refl q
-    choose (Unknown n) k q = never-unwritten q
+      allows : (g : Format) (start : ℕ) (rs : List Raw) (a : Allowed) → readImage f e image ≡ accepted g start rs → mayEdit (shape g) e start rs i v ≡ a →
+          editAllowed a (shape g) rs i v out .answer ≡ Wrote m → Done f e image i v out m
+      allows g start rs allowed r a q =
+          record {
+            format = g;
+            start = start;
+            raws = rs;
+            reading = accepted-reading f e image g start rs r;
+            short = short;
+            editable = may-editable (shape g) e start rs i v a;
+            took = rw (by-read, r, a) (put-took (shape g) (imageOf (shape g) (editedBytes (shape g) rs i v)) out m q);
+          }
+      allows g start rs (denied x) r a q = never-unwritten q
+
+      reads : (x : Read) → readImage f e image ≡ x → editRead x e i v out .answer ≡ Wrote m → Done f e image i v out m
+      reads (accepted g start rs) r q = allows g start rs (mayEdit (shape g) e start rs i v) r refl q
+      reads (refused x) r q = never-unwritten q

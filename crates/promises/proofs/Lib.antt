@@ -6,11 +6,11 @@ pub mod Entries
 pub mod ReadCalls
 pub mod WriteCalls
 pub mod Numbers
+pub mod FramesAlike
+pub mod Naming
 pub mod Telling
 pub mod Unchanged
-pub mod Naming
 pub mod RecordKinds
-pub mod FramesAlike
 pub mod PublishedRules
 pub mod Older
 pub mod OlderReads
@@ -20,3 +20,6 @@ pub mod Written
 pub mod Writing
 pub mod Edits
 pub mod OlderEdits
+pub mod Listing
+pub mod EditsTaken
+pub mod EditRule

@@ -36,7 +36,7 @@ use Rattle.promises.proofs.Naming.{named-names, names-named}
 use Rattle.promises.proofs.Telling.{serves-chosen, chosen-serves, counts-written, written-some}
 use Rattle.promises.proofs.Output.{put-fits, put-fitting}
 use Rattle.promises.proofs.Required.{complete-among, among-complete}
-use Rattle.promises.proofs.Written.{image-written, image-size, entries-size, entries-short}
+use Rattle.promises.proofs.Written.{image-written, image-size, entries-size, entries-short, fits-allowed, allowed-fits}
 use Rattle.promises.proofs.RoundTrip.{Done, write-done, done-short, fields-said}
 
 -- ---- a second time
@@ -123,23 +123,13 @@ inside-parts Vpd values x i =
     rw (le-leb (x .key .place .0 + x .key .len) (length values) (i .1 refl), le-leb (x .value .place .0 + x .value .len) (length values) (i .0))
 inside-parts Tiny values x i = le-leb (x .value .place .0 + x .value .len) (length values) (i .0)
 
--- ---- the codes that an image must have, and the most bytes
+-- ---- the codes that an image must have
 
 required-codes : (g : Format) → shape g .required ≡ required g
 unfolding fboss vpd tiny
 required-codes Fboss = refl
 required-codes Vpd = refl
 required-codes Tiny = refl
-
-most-allowed : (g : Format) (size : ℕ) (out : List ℕ) → length out ≤ limit → Fits g size out → size ≤ shape g .most
-unfolding fboss vpd tiny
-most-allowed Fboss size out short f = omega (arith, f .room)
-most-allowed Vpd size out short f = omega (arith, f .room)
-most-allowed Tiny size out short f = f .total refl
-
-tiny-most : (g : Format) (size : ℕ) → size ≤ shape g .most → g ≡ Tiny → size ≤ 255
-unfolding tiny
-tiny-most g size h is = rw is at h
 
 -- ---- a write
 
@@ -196,7 +186,7 @@ module _ (f e : ℕ) (xs : List Field) (values out : List ℕ) where
         once = rw (← said) (single-once g cs (fine .single));
         ordered = rw (← said) (follow-ordered g false cs (fine .follow));
         complete = rw (← said, ← required-codes g) (complete-among cs (S .required) (d .required));
-        fits = rw (← said, ← made-size g cs) (record { room = fits .1; total = tiny-most g (length image) (fits .0) });
+        fits = rw (← said, ← made-size g cs) (allowed-fits g (length image) out (fits .0) (fits .1));
       }
 
   writable-taken : Writable f e xs values out → tellsWrite f e xs values out .number ≡ 0
@@ -219,7 +209,7 @@ module _ (f e : ℕ) (xs : List Field) (values out : List ℕ) where
       let image : List ℕ = imageOf S (entriesBytes S cs) in
       let fits : Fits g (length image) out = rw (made-size g cs, said) (w .fits) in
       let puts = write-puts g known (w .short) (fine-judged S e values false [] xs 0 fine) complete in
-      rw (puts, put-fitting S image out (most-allowed g (length image) out (w .short) fits) (fits .room))
+      rw (puts, put-fitting S image out (fits-allowed g (length image) out (w .short) fits) (fits .room))
 
 pub writing : Writing
 writing =

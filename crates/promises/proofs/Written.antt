@@ -20,7 +20,7 @@ use Rattle.layout.specs.Read.{limit}
 use Rattle.layout.specs.Write.{writerRule, entryBytes, entriesBytes, imageOf}
 use Rattle.laws.proofs.Writing.{Writable, writer-parts, fresh-fits}
 use Rattle.laws.proofs.Formats.{laws}
-use Rattle.promises.specs.Written.{Written, fboss as fbossWritten, vpd as vpdWritten, tiny as tinyWritten, ShortLength, ShortEntry, ShortEntries, none, also, vpdBytes, lengthSize, keySize, entriesSize, headerSize, endSize}
+use Rattle.promises.specs.Written.{Written, fboss as fbossWritten, vpd as vpdWritten, tiny as tinyWritten, ShortLength, ShortEntry, ShortEntries, none, also, vpdBytes, lengthSize, keySize, entriesSize, headerSize, endSize, Fits}
 
 -- ---- how long it is
 
@@ -75,6 +75,20 @@ unfolding imageOf fboss vpd tiny
 image-size Fboss entries = simp length-append (omega arith)
 image-size Vpd entries = simp length-append (omega arith)
 image-size Tiny entries = simp length-append (omega arith)
+
+-- ---- what fits an output
+
+-- it is no longer than its format allows
+pub fits-allowed : (g : Format) (size : ℕ) (out : List ℕ) → length out ≤ limit → Fits g size out → size ≤ shape g .most
+unfolding fboss vpd tiny
+fits-allowed Fboss size out short f = omega (arith, f .room)
+fits-allowed Vpd size out short f = omega (arith, f .room)
+fits-allowed Tiny size out short f = f .total refl
+
+-- and what is no longer than the format allows and the output fits
+pub allowed-fits : (g : Format) (size : ℕ) (out : List ℕ) → size ≤ shape g .most → size ≤ length out → Fits g size out
+unfolding tiny
+allowed-fits g size out allowed room = record { room = room; total = λ is. rw is at allowed }
 
 -- ---- what it is
 
