@@ -2,21 +2,20 @@
 -- Assumes nothing.
 use Prim.Native.Nat.{ℕ, _+_, _-_, _≤_, _<_}
 use mathlib.Core.Path.{_≡_, refl, ap, sym, _∙_}
-use mathlib.Core.List.{List, [], _++_}
+use mathlib.Core.List.{List, []}
 use mathlib.Core.Bool.{Bool, true, false}
 use native.Mathlib.Omega.{arith}
 use lib.ListN.{length, length-append}
-use lib.Dec.{ltb}
 use borrow.Author.Tests.{lt-ltb, le-ltb}
 use Rattle.layout.specs.declared.Format.{Format}
 use Rattle.layout.specs.declared.Chosen.the-variants.{Known, Unknown}
 use Rattle.layout.specs.declared.Opened.the-variants.{Room, Closed}
 use Rattle.layout.specs.declared.Refusal.{Refusal}
-use Rattle.layout.specs.Bytes.{if, part, refusal}
+use Rattle.layout.specs.Bytes.{part, refusal}
 use Rattle.layout.specs.Shape.{Shape}
 use Rattle.layout.specs.Editions.{shape, chosen}
 use Rattle.layout.specs.Walk.{Raw, flat, Walked, done, stop}
-use Rattle.layout.specs.Read.{sealed, checkPlace, Judged, fine, faulty, judge, complete, codesOf, Read, accepted, refused, bad, readComplete, readWalked, readAs, readImage, limit}
+use Rattle.layout.specs.Read.{sealed, checkPlace, Judged, fine, faulty, judge, complete, codesOf, Read, accepted, refused, readComplete, readWalked, readAs, readImage, limit}
 use Rattle.laws.specs.Passes.{walked, IsDone, rawsIn}
 use Rattle.laws.proofs.Passes.{part-most}
 use Rattle.laws.proofs.Walking.{walk-decode}

@@ -1,9 +1,4 @@
 pub mod Packing
-pub mod Numbers
-pub mod Refusals
-pub mod Entries
-pub mod ReadCalls
-pub mod WriteCalls
 pub mod Whole
 pub mod Readings
 pub mod Records

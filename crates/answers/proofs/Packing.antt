@@ -1,6 +1,6 @@
 -- What fits its bits is taken out of the packed answer as it was put in.
 -- Assumes nothing.
-use Prim.Native.Nat.{ℕ, _≤_, _<_}
+use Prim.Native.Nat.{ℕ, _<_}
 use mathlib.Core.Path.{_≡_, refl}
 use mathlib.Core.List.{List}
 use mathlib.Core.Bool.{Bool, true, false}
@@ -10,9 +10,11 @@ use borrow.Author.Tests.{eqb-true, eqb-false}
 use Rattle.layout.specs.declared.Part.{Part}
 use Rattle.layout.specs.declared.Entry.{Entry}
 use Rattle.layout.specs.declared.Refusal.{Refusal}
+use Rattle.layout.specs.Bytes.{between, all}
 use Rattle.layout.specs.Calls.{Told, told, toldRefusal}
 use Rattle.records.specs.Packed.{packed}
-use Rattle.answers.specs.Whole.{Whole, Tabled}
+use Rattle.promises.proofs.FormatNumbers.{Low, tabled}
+use Rattle.answers.specs.Whole.{Whole}
 
 whole : (t : Told) → t .number < 32 → t .place < 576460752303423488 → t .count < 134217728 → t .part .place .0 < 4294967296 → Whole t
 unfolding packed
@@ -26,13 +28,12 @@ whole t n p c x = go (eqb (t .number) 0) refl
         let some = eqb-false (t .number) 0 e in
         record { number = rw e (omega arith); place = λ _. rw e (omega arith); count = λ z. absurd (some z); part = λ z. absurd (some z) }
 
--- a number of 01's table, and a place that is not beyond `most`
-pub record Low (most n p : ℕ) : Type 0 where
-  pub number : Tabled n
-  pub place : p ≤ most
-
-pub whole-refusal : (most : ℕ) (r : Refusal) → most < 576460752303423488 → Low most (r .number) (r .place .0) → Whole (toldRefusal r)
-whole-refusal most r lt l = whole (toldRefusal r) (omega arith) (omega arith) (omega arith) (omega arith)
+-- a refusal by one of the numbers 1 to 16, at a place that is not too far
+pub whole-refusal : (numbers : List ℕ) (most : ℕ) (r : Refusal) → all (between 1 16) numbers ≡ true → most < 576460752303423488 →
+    Low numbers most (r .number) (r .place .0) → Whole (toldRefusal r)
+whole-refusal numbers most r table lt l =
+    let n = tabled numbers (r .number) table (l .number) in
+    whole (toldRefusal r) (omega (arith, n .1)) (omega (arith, l .place)) (omega arith) (omega arith)
 
 pub whole-told : (n : ℕ) (x : Part) (es : List Entry) → n < 134217728 → x .place .0 < 4294967296 → Whole (told n x es)
 whole-told n x es c p = whole (told n x es) (omega arith) (omega arith) c p

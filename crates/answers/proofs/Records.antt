@@ -28,8 +28,8 @@ use Rattle.laws.proofs.Passes.{raw-code}
 use Rattle.laws.proofs.Walking.{Frames}
 use Rattle.laws.proofs.Calls.{accepted-reading}
 use Rattle.records.specs.Words.{wordBytes, wordsBytes, readingWords, recordWords, recordBytes}
+use Rattle.promises.proofs.Entries.{Inside, held}
 use Rattle.answers.specs.Records.{WholeRecord, WholeRecords}
-use Rattle.answers.proofs.Entries.{Inside, held}
 use Rattle.answers.proofs.Readings.{Bytes, Words, each-take, each-part, byte-of, then, reading-words}
 
 -- ---- words in bytes

@@ -1,15 +1,10 @@
 -- The packed answer loses nothing: C takes out of it what the call tells (docs/C-INTERFACE.md, "The answer").
 -- Assumes nothing.
-use Prim.Native.Nat.{ℕ, _/_, _%_, _≤_, _<_}
+use Prim.Native.Nat.{ℕ, _/_, _%_, _<_}
 use mathlib.Core.Path.{_≡_}
 use mathlib.Core.List.{List}
 use lib.ListN.{length}
 use Rattle.layout.specs.declared.Field.{Field}
-use Rattle.layout.specs.declared.Refusal.{Refusal}
-use Rattle.layout.specs.declared.Checked.the-variants.{Refused}
-use Rattle.layout.specs.declared.Lookup.the-variants.{Missing}
-use Rattle.layout.specs.declared.Located.the-variants.{Nowhere}
-use Rattle.layout.specs.declared.Made.the-variants.{Unwritten}
 use Rattle.layout.specs.Bytes.{partAt, refusal}
 use Rattle.layout.specs.Calls.{Told, told, toldRefusal, toldChecked, toldLookup, toldLocated, checkImage, entriesIn, entryAt, valueAt, stringAt}
 use Rattle.layout.specs.Write.{fieldsIn, Outcome, writeImage, toldMade}
@@ -59,19 +54,3 @@ pub record WholeWrites : Type 0 where
   pub edited : (f e : ℕ) (img : List ℕ) (i : ℕ) (v out : List ℕ) → Whole (toldMade (editEntry f e img i v out .answer))
   pub written : (f e : ℕ) (xs : List Field) (values out : List ℕ) → length xs < 576460752303423488 → Whole (toldMade (writeImage f e xs values out .answer))
   pub lent : (f e : ℕ) (fields values out : List ℕ) → length fields < 9223372036854775808 → Whole (toldMade (writeImage f e (fieldsIn fields) values out .answer))
-
--- ---- refusals
-
--- a number of 01's table: never the 0 of an answer that is not refused
-pub record Tabled (n : ℕ) : Type 0 where
-  pub some : 0 < n
-  pub most : n ≤ 16
-
--- every refusal has such a number
-pub record TabledRefusals : Type 0 where
-  pub checked : (f e : ℕ) (img : List ℕ) (r : Refusal) → checkImage f e img ≡ Refused r → Tabled (r .number)
-  pub entry : (f e : ℕ) (img : List ℕ) (n : ℕ) (r : Refusal) → entryAt f e img n ≡ Missing r → Tabled (r .number)
-  pub value : (f e : ℕ) (img : List ℕ) (n : ℕ) (r : Refusal) → valueAt f e img n ≡ Nowhere r → Tabled (r .number)
-  pub string : (f e : ℕ) (img : List ℕ) (number : ℕ) (r : Refusal) → stringAt f e img number ≡ Nowhere r → Tabled (r .number)
-  pub edited : (f e : ℕ) (img : List ℕ) (i : ℕ) (v out : List ℕ) (r : Refusal) → editEntry f e img i v out .answer ≡ Unwritten r → Tabled (r .number)
-  pub written : (f e : ℕ) (xs : List Field) (values out : List ℕ) (r : Refusal) → writeImage f e xs values out .answer ≡ Unwritten r → Tabled (r .number)

@@ -1,17 +1,15 @@
 -- An older edition reads what a newer one reads.
 -- Assumes nothing.
 use Prim.Native.Nat.{ℕ, _≤_}
-use mathlib.Core.Path.{_≡_, sym}
+use mathlib.Core.Path.{_≡_}
 use mathlib.Core.List.{List, [], map}
 use mathlib.Core.Bool.{true}
-use lib.ListN.{length}
 use Rattle.layout.specs.declared.Format.{Format}
 use Rattle.layout.specs.declared.Chosen.the-variants.{Known}
 use Rattle.layout.specs.Editions.{shape, knownEdition, chosen}
-use Rattle.layout.specs.Walk.{Raw, content, flat}
-use Rattle.layout.specs.Read.{limit, accepted, readImage}
+use Rattle.layout.specs.Walk.{Raw, content}
 use Rattle.laws.proofs.Judging.{lawful-down}
-use Rattle.laws.proofs.Images.{Accepts, imageFrom}
+use Rattle.laws.proofs.Images.{Accepts}
 use Rattle.laws.proofs.Calls.{Reading, chosen-stands, stands-chosen, accepted-reading, made-reading}
 
 -- the format that one known edition has, every known edition has

@@ -1,21 +1,18 @@
 -- Promise 5 holds.
 -- Assumes nothing.
-use Prim.Native.Nat.{ℕ, _+_, _≤_}
-use mathlib.Core.Path.{_≡_, refl, ap, sym, _∙_}
+use Prim.Native.Nat.{ℕ}
+use mathlib.Core.Path.{_≡_, sym, _∙_}
 use mathlib.Core.List.{List, [], map}
-use mathlib.Core.Bool.{Bool, true, false}
-use native.Mathlib.Omega.{arith}
-use lib.ListN.{length, take, length-append}
+use mathlib.Core.Bool.{false}
 use Rattle.layout.specs.declared.Format.{Format}
 use Rattle.layout.specs.Shape.{Shape}
 use Rattle.layout.specs.Editions.{shape}
-use Rattle.layout.specs.Walk.{Raw, Content, content, flat}
-use Rattle.layout.specs.Read.{limit, accepted, complete, codesOf}
-use Rattle.layout.specs.Write.{Outcome, imageOf}
-use Rattle.layout.specs.Edit.{editedBytes, editEntry}
-use Rattle.laws.specs.Contents.{replaced}
+use Rattle.layout.specs.Walk.{Raw, content}
+use Rattle.layout.specs.Read.{accepted}
+use Rattle.layout.specs.Write.{Outcome}
+use Rattle.layout.specs.Edit.{editEntry}
 use Rattle.laws.proofs.Judging.{lawful-replaced}
-use Rattle.laws.proofs.Editing.{Editable, editedRaws, edited-flat, edited-codes, editable-ruled, edited-frames}
+use Rattle.laws.proofs.Editing.{editedRaws, edited-flat, edited-codes, editable-ruled, edited-frames}
 use Rattle.laws.proofs.Images.{Accepts}
 use Rattle.laws.proofs.Formats.{laws}
 use Rattle.laws.proofs.Calls.{Reading, Found, check-found, chosen-stands}

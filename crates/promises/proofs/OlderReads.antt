@@ -2,12 +2,10 @@
 -- Assumes nothing.
 use Prim.Native.Nat.{ℕ, _+_, _≤_}
 use mathlib.Core.Path.{_≡_, refl, sym, _∙_}
-use mathlib.Core.List.{List, [], _∷_, map}
+use mathlib.Core.List.{List, [], _∷_}
 use mathlib.Core.Bool.{Bool, true, false}
-use lib.ListN.{length}
 use Rattle.layout.specs.declared.Format.{Format}
 use Rattle.layout.specs.declared.Entry.{Entry}
-use Rattle.layout.specs.declared.Reading.the-variants.{Plain}
 use Rattle.layout.specs.Shape.{Shape}
 use Rattle.layout.specs.Editions.{shape, names, kind}
 use Rattle.layout.specs.Walk.{Raw}

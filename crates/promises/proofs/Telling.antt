@@ -1,12 +1,12 @@
 -- From what a call tells to its answer, and from the words of the promises to those of the definitions.
 -- Assumes nothing.
-use Prim.Native.Nat.{ℕ, _≤_}
+use Prim.Native.Nat.{ℕ}
 use mathlib.Core.Path.{_≡_, refl, ap, _∙_}
 use mathlib.Core.List.{List}
 use mathlib.Core.Bool.{true}
 use native.Mathlib.Omega.{arith}
 use lib.ListN.{length}
-use lib.Dec.{leb, eqb}
+use lib.Dec.{leb}
 use borrow.Author.Tests.{eqb-true, leb-true, le-leb}
 use Rattle.layout.specs.declared.Format.{Format}
 use Rattle.layout.specs.declared.Format.the-variants.{Fboss, Vpd, Tiny}
@@ -17,7 +17,7 @@ use Rattle.layout.specs.declared.Checked.{Checked}
 use Rattle.layout.specs.declared.Checked.the-variants.{Accepted, Refused}
 use Rattle.layout.specs.declared.Made.{Made}
 use Rattle.layout.specs.declared.Made.the-variants.{Wrote, Unwritten}
-use Rattle.layout.specs.Bytes.{between, all, oneOf}
+use Rattle.layout.specs.Bytes.{between, all}
 use Rattle.layout.specs.Editions.{knownEdition, chosen}
 use Rattle.layout.specs.Read.{Read, accepted, refused, readImage}
 use Rattle.layout.specs.Calls.{Told, toldChecked, checkedBy, checkImage}

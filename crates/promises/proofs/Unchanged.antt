@@ -18,7 +18,7 @@ use Rattle.layout.specs.Calls.{entriesOf, toldChecked, Listed, listedBy, listEn
 use Rattle.layout.specs.Write.{judgeFields, contentsOf, contentCodes, entriesBytes, imageOf, Outcome, put, writeJudged, writeAs, writeChosen, writeImage, toldMade}
 use Rattle.layout.specs.Edit.{editedBytes, Allowed, allowed, denied, mayEdit, editAllowed, editRead, editChosen, editEntry}
 use Rattle.laws.proofs.Choices.{either}
-use Rattle.promises.specs.Words.{IsRefused, tellsList, tellsWrite, tellsEdit}
+use Rattle.promises.specs.Words.{IsRefused, tellsList}
 use Rattle.promises.specs.Unchanged.{Unchanged}
 
 -- a call that is refused leaves this output
