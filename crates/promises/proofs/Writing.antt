@@ -13,7 +13,6 @@ use Rattle.layout.specs.declared.Format.the-variants.{Fboss, Vpd, Tiny}
 use Rattle.layout.specs.declared.Field.{Field}
 use Rattle.layout.specs.declared.Chosen.the-variants.{Known}
 use Rattle.layout.specs.declared.Made.the-variants.{Wrote}
-use Rattle.layout.specs.Bytes.{if, sameBytes}
 use Rattle.layout.specs.Shape.{Shape}
 use Rattle.layout.specs.Fboss.{fboss}
 use Rattle.layout.specs.Vpd.{vpd, vpdTwice}
@@ -23,7 +22,7 @@ use Rattle.layout.specs.Walk.{Content, labelOf}
 use Rattle.layout.specs.Read.{limit, same, fine, complete}
 use Rattle.layout.specs.Write.{inside, partsInside, judgeFields, contentsOf, contentCodes, entriesBytes, imageOf, put, writeAs, writeImage}
 use Rattle.laws.specs.Grammar.{none}
-use Rattle.laws.proofs.Choices.{false-true, both}
+use Rattle.laws.proofs.Choices.{false-true, either, both}
 use Rattle.laws.proofs.Lists.{each-map, each-every}
 use Rattle.laws.proofs.Images.{same-refl, same-true}
 use Rattle.laws.proofs.Writing.{Single, Follow, Fine, judged-fine, fine-judged, fields-fine}
@@ -32,7 +31,7 @@ use Rattle.laws.proofs.Calls.{chosen-stands}
 use Rattle.promises.specs.Words.{tellsWrite}
 use Rattle.promises.specs.RoundTrip.{fieldSays}
 use Rattle.promises.specs.Written.{headerSize, entriesSize, endSize, Fits}
-use Rattle.promises.specs.Writing.{Wrote as Puts, Inside, Again, Once, Ordered, required, Writable, Writing}
+use Rattle.promises.specs.Writing.{Wrote as Puts, Within, Inside, Again, Once, Ordered, required, Writable, Writing}
 use Rattle.promises.proofs.Naming.{named-names, names-named}
 use Rattle.promises.proofs.Telling.{serves-chosen, chosen-serves, counts-written, written-some}
 use Rattle.promises.proofs.Output.{put-fits, put-fitting}
@@ -40,29 +39,26 @@ use Rattle.promises.proofs.Required.{complete-among, among-complete}
 use Rattle.promises.proofs.Written.{image-written, image-size, entries-size, entries-short, fits-allowed, allowed-fits}
 use Rattle.promises.proofs.RoundTrip.{Done, write-done, done-short, fields-said}
 
--- what would make two numbers one is not so
-differ : {A : Type 0} → _≡_ {A = ℕ} 0 1 → A
-differ z = absurd (omega arith)
-
 -- ---- a second time
 
-same-again : (g : Format) (c d : Content) → same (shape g) (labelOf c) (labelOf d) ≡ true → Again g c d
+twice-key : (g : Format) (c d : Content) → shape g .twice (labelOf c) (labelOf d) ≡ true → g ≡ Vpd → c .code ≡ 0x01 → c .key ≡ d .key
+unfolding vpd vpdTwice
+twice-key g c d h is one = same-true (c .key) (d .key) (rw (is, eq-eqb (c .code) 0x01 one) at h)
+
+key-twice : (g : Format) (c d : Content) → (g ≡ Vpd → c .code ≡ 0x01 → c .key ≡ d .key) → shape g .twice (labelOf c) (labelOf d) ≡ true
 unfolding fboss vpd tiny vpdTwice
-same-again Fboss c d h = (eqb-true (c .code) (d .code) (both (eqb (c .code) (d .code)) true h .0), λ is. differ (cc))
-same-again Vpd c d h =
-    let b = both (eqb (c .code) (d .code)) (vpdTwice (labelOf c) (labelOf d)) h in
-    (eqb-true (c .code) (d .code) (b .0), λ is one. same-true (c .key) (d .key) (rw (eq-eqb (c .code) 0x01 one) at (b .1)))
-same-again Tiny c d h = (eqb-true (c .code) (d .code) (both (eqb (c .code) (d .code)) true h .0), λ is. differ (cc))
+key-twice Fboss c d h = refl
+key-twice Vpd c d h =
+    either (λ t. t ≡ true) (eqb (c .code) 0x01) (λ one. rw (h refl (eqb-true (c .code) 0x01 one)) (same-refl (d .key))) (λ _. refl)
+key-twice Tiny c d h = refl
+
+same-again : (g : Format) (c d : Content) → same (shape g) (labelOf c) (labelOf d) ≡ true → Again g c d
+same-again g c d h =
+    let b = both (eqb (c .code) (d .code)) (shape g .twice (labelOf c) (labelOf d)) h in
+    (eqb-true (c .code) (d .code) (b .0), twice-key g c d (b .1))
 
 again-same : (g : Format) (c d : Content) → Again g c d → same (shape g) (labelOf c) (labelOf d) ≡ true
-unfolding fboss vpd tiny vpdTwice
-again-same Fboss c d a = rw (eq-eqb (c .code) (d .code) (a .0))
-again-same Vpd c d a = rw (eq-eqb (c .code) (d .code) (a .0)) (keyed (eqb (c .code) 0x01) refl)
-  where
-    keyed : (b : Bool) → eqb (c .code) 0x01 ≡ b → if b (λ _. sameBytes (c .key) (d .key)) (λ _. true) ≡ true
-    keyed true e = rw (a .1 refl (eqb-true (c .code) 0x01 e)) (same-refl (d .key))
-    keyed false e = refl
-again-same Tiny c d a = rw (eq-eqb (c .code) (d .code) (a .0))
+again-same g c d a = rw (eq-eqb (c .code) (d .code) (a .0)) (key-twice g c d (a .1))
 
 single-once : (g : Format) (cs : List Content) → Single (shape g) cs → Once g cs
 single-once g [] s = tt
@@ -102,18 +98,23 @@ ordered-follow g b (c ∷ cs) h o =
     (unshut b h, ordered-follow g (shape g .last (c .code)) cs (λ l. let p = last-pool g (c .code) l in o .0 (p .0) (p .1)) (o .1))
   where
     unshut : (b : Bool) → (b ≡ true → c ∷ cs ≡ []) → b ≡ false
-    unshut true h = let q = h refl in differ (cc)
+    unshut true h = let q = h refl in let z : _≡_ {A = ℕ} 0 1 = cc in absurd (omega arith)
     unshut false h = refl
 
 -- ---- inside the lent values
 
+value-inside : (b : Bool) (values : List ℕ) (x : Field) → partsInside b x values ≡ true → Within values (x .value)
+value-inside true values x h =
+    leb-true (x .value .place .0 + x .value .len) (length values) (both (inside (x .key) values) (inside (x .value) values) h .1)
+value-inside false values x h = leb-true (x .value .place .0 + x .value .len) (length values) h
+
+key-inside : (g : Format) (values : List ℕ) (x : Field) → partsInside (shape g .keyed) x values ≡ true → g ≡ Vpd → Within values (x .key)
+unfolding vpd
+key-inside g values x h is =
+    leb-true (x .key .place .0 + x .key .len) (length values) (both (inside (x .key) values) (inside (x .value) values) (rw is at h) .0)
+
 parts-inside : (g : Format) (values : List ℕ) (x : Field) → partsInside (shape g .keyed) x values ≡ true → Inside g values x
-unfolding fboss vpd tiny
-parts-inside Fboss values x h = (leb-true (x .value .place .0 + x .value .len) (length values) h, λ is. differ (cc))
-parts-inside Vpd values x h =
-    let b = both (inside (x .key) values) (inside (x .value) values) h in
-    (leb-true (x .value .place .0 + x .value .len) (length values) (b .1), λ is. leb-true (x .key .place .0 + x .key .len) (length values) (b .0))
-parts-inside Tiny values x h = (leb-true (x .value .place .0 + x .value .len) (length values) h, λ is. differ (cc))
+parts-inside g values x h = (value-inside (shape g .keyed) values x h, key-inside g values x h)
 
 inside-parts : (g : Format) (values : List ℕ) (x : Field) → Inside g values x → partsInside (shape g .keyed) x values ≡ true
 unfolding fboss vpd tiny
