@@ -54,7 +54,8 @@ module _ {S : Shape} {G : Grammar} (L : Laws S G) where
       part-none (p + r .frame .val) (pre ++ (r .bytes ++ t))
       ∙ sym (ap (λ (c : Content). c .key) (raw-content L r i) ∙ L .keyless (i .front) (i .key) (i .code) y (i .opens))
 
-  entry-said : (e p : ℕ) (r : Raw) (pre t : List ℕ) → IsRaw G r → length pre ≡ p → said (pre ++ (r .bytes ++ t)) (entryOf S e p r) ≡ content r
+  -- the record of an entry says what the entry says
+  pub entry-said : (e p : ℕ) (r : Raw) (pre t : List ℕ) → IsRaw G r → length pre ≡ p → said (pre ++ (r .bytes ++ t)) (entryOf S e p r) ≡ content r
   unfolding said content entryOf
   entry-said e p r pre t i q =
       let w = raw-placed r i in

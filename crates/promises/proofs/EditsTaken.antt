@@ -30,7 +30,7 @@ use Rattle.laws.proofs.Editing.{Editable, may-editable, editable-may}
 use Rattle.laws.proofs.Choices.{both}
 use Rattle.laws.proofs.Formats.{laws}
 use Rattle.laws.proofs.Calls.{Found, edit-read}
-use Rattle.promises.specs.Words.{Item, here, there, tellsEdit}
+use Rattle.promises.specs.Words.{Counts, Item, here, there, tellsEdit}
 use Rattle.promises.specs.Written.{headerSize, Fits}
 use Rattle.promises.specs.EditRule.{lengthPlace, editedSize, Editable as EditableIn, Edits}
 use Rattle.promises.proofs.Telling.{chosen-serves, edited-some}
@@ -157,13 +157,15 @@ module _ (f e : ℕ) (image : List ℕ) (n : ℕ) (x : Found f e image n) (i : �
           }
       go m s (denied r) a q = never-unwritten q
 
-  is-taken : EditableIn f e image n (list-of f e image n x) i v out → tellsEdit f e image i v out .number ≡ 0
+  is-taken : (y : EditableIn f e image n (list-of f e image n x) i v out) →
+      Counts (tellsEdit f e image i v out) (editedSize (list-of f e image n x .format) (list-of f e image n x .end) (y .entry) (length v))
   unfolding list-of
   is-taken y =
       let image′ : List ℕ = imageOf S (editedBytes S rs i v) in
       let may = editable-may S e (x .start) rs i v (item-editable S e (x .start) rs i v (y .entry) (y .there) (named-names g e (y .entry .code) (y .named)) (y .ruled)) in
-      let fits : Fits g (length image′) out = rw (edited-size (y .entry) (y .there)) (y .fits) in
-      rw (edit-accepted (y .short), may, put-fitting S image′ out (fits-allowed g (length image′) out (y .short) fits) (fits .room))
+      let size = edited-size (y .entry) (y .there) in
+      let fits : Fits g (length image′) out = rw size (y .fits) in
+      rw (← size, edit-accepted (y .short), may, put-fitting S image′ out (fits-allowed g (length image′) out (y .short) fits) (fits .room))
 
 pub edits : (f e : ℕ) (image : List ℕ) (n : ℕ) → Found f e image n → Edits f e image n
 edits f e image n x = record { list = list-of f e image n x; taken-is = taken-is f e image n x; is-taken = is-taken f e image n x }

@@ -9,6 +9,7 @@ pub mod Numbers
 pub mod FramesAlike
 pub mod Naming
 pub mod Telling
+pub mod Asked
 pub mod Unchanged
 pub mod RecordKinds
 pub mod PublishedRules

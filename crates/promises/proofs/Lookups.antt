@@ -9,7 +9,7 @@ use native.Mathlib.Nat.{zero-add, add-zero, zero-sub, sub-zero, suc-sub-suc}
 use lib.ListN.{length, take, replicate}
 use lib.Seq.{take-nil}
 use lib.Dec.{ltb}
-use borrow.Author.Tests.{le-ltb}
+use borrow.Author.Tests.{le-ltb, lt-leb}
 use Rattle.layout.specs.declared.Format.{Format}
 use Rattle.layout.specs.declared.Chosen.{Chosen}
 use Rattle.layout.specs.declared.Chosen.the-variants.{Known, Unknown}
@@ -22,7 +22,7 @@ use Rattle.layout.specs.declared.Located.the-variants.{At, Nowhere}
 use Rattle.layout.specs.Bytes.{if, all, refusal}
 use Rattle.layout.specs.Editions.{shape, chosen}
 use Rattle.layout.specs.Read.{limit, refused, bad, readAs, readChosen, readImage}
-use Rattle.layout.specs.Calls.{Told, toldRefusal, entriesOf, checkImage, listEntries, nth, entryAt, valueAt, stepFrom}
+use Rattle.layout.specs.Calls.{Told, toldRefusal, entriesOf, checkImage, listEntries, nth, entryAt, valueAt, stringAt, stepFrom}
 use Rattle.layout.specs.Write.{refuse}
 use Rattle.layout.specs.Edit.{editRead, editChosen, editEntry}
 use Rattle.laws.specs.Contents.{said}
@@ -99,7 +99,7 @@ unfolding entryAt
 found-all f e image n x i = rw (x .reading .read)
 
 one-by-one : (f e : ℕ) (image : List ℕ) (n : ℕ) → FoundImage f e image n → OneByOne f e image n
-unfolding valueAt said
+unfolding listEntries valueAt said
 one-by-one f e image n x =
     let g = x .format in
     let xs : List Entry = entriesOf (shape g) e (x .start) (x .raws) in
@@ -112,6 +112,7 @@ one-by-one f e image n x =
       entries = xs;
       counted = count;
       listed = lists f e image g (x .start) (x .raws) (x .reading);
+      tooFew = λ records lt. rw (x .reading .read, lt-leb (length xs) (length records) (omega arith));
       entry = λ i y it. rw (item i y it);
       noEntry = λ i le. rw (past i le);
       value = λ i y it. rw (item i y it);
@@ -151,12 +152,9 @@ as-checked f e image r q =
 
 -- ---- any image
 
-twin-of : (f e : ℕ) (image : List ℕ) (n : ℕ) → Twin f e image n
-twin-of f e image n = go (valueAt f e image n) refl
-  where
-    go : (x : Located) → valueAt f e image n ≡ x → Twin f e image n
-    go (At x) q = record { number = rw q; place = rw q; empty = λ r. absurd (r (rw q)) }
-    go (Nowhere r) q = record { number = rw q; place = rw q; empty = λ r. rw q }
+twin-of : (image : List ℕ) (x : Located) → Twin image x
+twin-of image (At x) = record { number = refl; place = refl; empty = λ r. absurd (r refl) }
+twin-of image (Nowhere r) = record { number = refl; place = refl; empty = λ r. refl }
 
 -- a missing entry is refused by a number of its table, which has no 0
 step-rule : (f e n : ℕ) (image : List ℕ) → StepRule f e n image
@@ -175,5 +173,6 @@ lookups =
       accepted = λ f e image n q. one-by-one f e image n (check-found f e image n (counts-accepted f e image n q));
       refused = λ f e image q. let x = check-refused f e image q in as-checked f e image (x .0) (x .1);
       stepped = step-rule;
-      twin = twin-of;
+      value = λ f e image n. twin-of image (valueAt f e image n);
+      string = λ f e image number. twin-of image (stringAt f e image number);
     }

@@ -28,7 +28,7 @@ use Rattle.laws.proofs.Walking.{Frames}
 use Rattle.laws.proofs.Records.{entries-count}
 use Rattle.laws.proofs.Formats.{laws}
 use Rattle.laws.proofs.Calls.{Found, check-found}
-use Rattle.promises.specs.Words.{Numbered, Serves}
+use Rattle.promises.specs.Words.{FormatNumber, Serves}
 use Rattle.promises.specs.Names.{One, Two, Named, sinceOne, sinceTwo, tiny01, tiny10, tiny11, tiny60, tiny61, tiny62, tiny80, tiny81}
 use Rattle.promises.specs.Kinds.{base, FbossMeans, VpdMeans, TinyMeans, Means, Marked, MarkedList, Kinds}
 use Rattle.promises.proofs.Accepting.{lists, records-say}
@@ -125,11 +125,11 @@ means Tiny e c lens n s rule = tiny-means e (c .code) lens (c .value) n s
 raw-says : (g : Format) (r : Raw) (i : IsRaw (grammar g) r) → grammar g .Says (content r .code) (i .lens) (length (content r .value))
 raw-says g r i = rw (raw-content (laws g) r i) (i .says)
 
-number-is : (f : ℕ) (g : Format) → Numbered f g → shape g .number ≡ f
+number-is : (f : ℕ) (g : Format) → FormatNumber f g → shape g .number ≡ f
 unfolding fboss vpd tiny
-number-is f Fboss Numbered.fboss = refl
-number-is f Vpd Numbered.vpd = refl
-number-is f Tiny Numbered.tiny = refl
+number-is f Fboss FormatNumber.fboss = refl
+number-is f Vpd FormatNumber.vpd = refl
+number-is f Tiny FormatNumber.tiny = refl
 
 module _ (f e : ℕ) (g : Format) (serves : Serves f e g) (image : List ℕ) where
   record-marked : (p : ℕ) (r : Raw) → IsRaw (grammar g) r → Ruled (shape g) e (content r) → said image (entryOf (shape g) e p r) ≡ content r →

@@ -28,7 +28,7 @@ use Rattle.laws.proofs.Images.{same-refl, same-true}
 use Rattle.laws.proofs.Writing.{Single, Follow, Fine, judged-fine, fine-judged, fields-fine}
 use Rattle.laws.proofs.Formats.{laws}
 use Rattle.laws.proofs.Calls.{chosen-stands}
-use Rattle.promises.specs.Words.{tellsWrite}
+use Rattle.promises.specs.Words.{Counts, tellsWrite}
 use Rattle.promises.specs.RoundTrip.{fieldSays}
 use Rattle.promises.specs.Written.{headerSize, entriesSize, endSize, Fits}
 use Rattle.promises.specs.Writing.{Wrote as Puts, Within, Inside, Again, Once, Ordered, required, Writable, Writing}
@@ -189,7 +189,8 @@ module _ (f e : ℕ) (xs : List Field) (values out : List ℕ) where
         fits = rw (← said, ← made-size g cs) (allowed-fits g (length image) out (fits .0) (fits .1));
       }
 
-  writable-taken : Writable f e xs values out → tellsWrite f e xs values out .number ≡ 0
+  writable-taken : (w : Writable f e xs values out) →
+      Counts (tellsWrite f e xs values out) (headerSize (w .format) + entriesSize (w .format) (map (fieldSays f values) xs) + endSize (w .format))
   writable-taken w =
       let g = w .format in
       let S : Shape = shape g in
@@ -209,7 +210,7 @@ module _ (f e : ℕ) (xs : List Field) (values out : List ℕ) where
       let image : List ℕ = imageOf S (entriesBytes S cs) in
       let fits : Fits g (length image) out = rw (made-size g cs, said) (w .fits) in
       let puts = write-puts g known (w .short) (fine-judged S e values false [] xs 0 fine) complete in
-      rw (puts, put-fitting S image out (fits-allowed g (length image) out (w .short) fits) (fits .room))
+      rw (← said, ← made-size g cs, puts, put-fitting S image out (fits-allowed g (length image) out (w .short) fits) (fits .room))
 
 pub writing : Writing
 writing =

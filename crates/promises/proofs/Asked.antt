@@ -1,0 +1,82 @@
+-- What no call takes.
+-- Assumes nothing.
+use Prim.Native.Nat.{ℕ, _<_}
+use mathlib.Core.Path.{_≡_, refl}
+use mathlib.Core.List.{List}
+use mathlib.Core.Logic.{_⊎_, inl, inr}
+use mathlib.Core.Bool.{Bool, true, false, _||_}
+use lib.ListN.{length}
+use lib.Dec.{ltb}
+use borrow.Author.Tests.{ne-eqb, lt-ltb}
+use Rattle.layout.specs.declared.Format.{Format}
+use Rattle.layout.specs.declared.Format.the-variants.{Fboss, Vpd, Tiny}
+use Rattle.layout.specs.declared.Chosen.the-variants.{Known, Unknown}
+use Rattle.layout.specs.Editions.{knownEdition, chosen}
+use Rattle.layout.specs.Read.{limit, readImage}
+use Rattle.layout.specs.Calls.{checkImage, listEntries, entryAt, valueAt}
+use Rattle.layout.specs.Write.{writeImage}
+use Rattle.layout.specs.Edit.{editEntry}
+use Rattle.promises.specs.Words.{FormatNumber, fboss, vpd, tiny, KnownEdition, Refuses, tellsEdit}
+use Rattle.promises.specs.Asked.{AllRefuse, TooLong, Asked}
+use Rattle.promises.proofs.Telling.{known-edition, serves-chosen}
+
+-- ---- formats and editions
+
+-- 16 where the number stands for no format
+no-format : (f e : ℕ) → ((g : Format) → FormatNumber f g → ⊥) → chosen f e ≡ Unknown 16
+unfolding chosen
+no-format f e none =
+    rw (ne-eqb f 1 (λ q. none Fboss (rw q fboss)), ne-eqb f 2 (λ q. none Vpd (rw q vpd)), ne-eqb f 3 (λ q. none Tiny (rw q tiny)))
+
+unknown-edition : (e : ℕ) → (KnownEdition e → ⊥) → knownEdition e ≡ false
+unknown-edition e none = go (knownEdition e) refl
+  where
+    go : (b : Bool) → knownEdition e ≡ b → b ≡ false
+    go true q = absurd (none (known-edition e q))
+    go false q = refl
+
+-- 1 where it stands for one, and the edition is not known
+no-edition : (f e : ℕ) (g : Format) → FormatNumber f g → (KnownEdition e → ⊥) → chosen f e ≡ Unknown 1
+unfolding chosen
+no-edition f e g fboss none = rw (unknown-edition e none)
+no-edition f e g vpd none = rw (unknown-edition e none)
+no-edition f e g tiny none = rw (unknown-edition e none)
+
+all-refuse : (f e n : ℕ) → chosen f e ≡ Unknown n → AllRefuse f e n
+unfolding readImage checkImage listEntries entryAt valueAt writeImage editEntry
+all-refuse f e n k =
+    record {
+      checked = λ image. rw k;
+      listed = λ image records. rw k;
+      entry = λ image i. rw k;
+      value = λ image i. rw k;
+      written = λ fields values out. rw k;
+      edited = λ image i v out. rw k;
+    }
+
+-- ---- lengths
+
+too-long : (f e : ℕ) (g : Format) → chosen f e ≡ Known g → TooLong f e
+unfolding readImage checkImage writeImage editEntry
+too-long f e g k =
+    record {
+      checked = λ image lt. rw (k, lt-ltb limit (length image) lt);
+      written = λ fields values out lt. rw (k, lt-ltb limit (length out) lt);
+      edited = edited;
+    }
+  where
+    either-long : (b : Bool) → (b || true) ≡ true
+    either-long true = refl
+    either-long false = refl
+
+    edited : (image : List ℕ) (i : ℕ) (v out : List ℕ) → (limit < length image) ⊎ (limit < length out) → Refuses (tellsEdit f e image i v out) 2 0
+    edited image i v out (inl lt) = rw (k, lt-ltb limit (length image) lt)
+    edited image i v out (inr lt) = rw (k, lt-ltb limit (length out) lt, either-long (ltb limit (length image)))
+
+pub asked : Asked
+asked =
+    record {
+      format = λ f e none. all-refuse f e 16 (no-format f e none);
+      edition = λ f e g number none. all-refuse f e 1 (no-edition f e g number none);
+      length = λ f e g serves. too-long f e g (serves-chosen serves);
+    }
