@@ -8,6 +8,7 @@ pub mod WriteCalls
 pub mod Numbers
 pub mod FramesAlike
 pub mod Naming
+pub mod Ruling
 pub mod Telling
 pub mod Asked
 pub mod Unchanged
