@@ -8,7 +8,7 @@ use native.Mathlib.Omega.{arith}
 use lib.ListN.{length, getD, take, drop, length-append, length-take, length-drop, List·getD-append}
 use lib.Seq.{take-at, drop-at, drop-append-add, getD-append-add, getD-take, length-take-le}
 use lib.Dec.{leb}
-use borrow.Author.Tests.{leb-true, le-leb, leb-false}
+use borrow.Author.Tests.{leb-true, le-leb, lt-leb}
 use Rattle.layout.specs.declared.Format.{Format}
 use Rattle.layout.specs.declared.Entry.{Entry}
 use Rattle.layout.specs.declared.Refusal.{Refusal}
@@ -36,7 +36,7 @@ use Rattle.promises.proofs.Telling.{counts-accepted}
 use Rattle.promises.proofs.Unchanged.{unchanged}
 use Rattle.answers.proofs.Whole.{whole-reads}
 use Rattle.answers.proofs.Records.{word-back, word-past}
-use Rattle.answers.specs.Lent.{RefusedAnswer, UnchangedLent, ListLent, EntryLent, StepLent, Lent}
+use Rattle.answers.specs.Lent.{RefusedAnswer, UnchangedLent, Answers, ListLent, EntryLent, StepLent, Lent}
 
 -- ---- numbers
 
@@ -69,18 +69,16 @@ module _ (x : Lookup) (m : List ℕ) where
       go (Found y) r = room y (leb 64 (length m)) r
       go (Missing q) r = refl
 
-  recorded-answers : 64 ≤ length m → recorded x m .answer ≡ packed (toldLookup x)
-  recorded-answers le = go x
-    where
-      go : (x : Lookup) → recorded x m .answer ≡ packed (toldLookup x)
-      go (Found y) = rw (le-leb 64 (length m) le)
-      go (Missing q) = refl
-
 never-given : {A : Type 0} (r : Refusal) (y : Entry) → toldRefusal r ≡ given y → A
 never-given r y q = let z : _≡_ {A = ℕ} 0 1 = ap (λ (t : Told). t .count) q in absurd (omega arith)
 
 given-same : (x y : Entry) → toldLookup (Found x) ≡ given y → x ≡ y
 given-same x y q = let z : (x ∷ []) ≡ (y ∷ []) = ap (λ (t : Told). t .given) q in cc
+
+recorded-answers : (x : Lookup) (m : List ℕ) → Answers (toldLookup x) m (recorded x m .answer)
+recorded-answers (Found y) m =
+    record { whole = λ le. rw (le-leb 64 (length m) le); refused = λ h. absurd (h refl); short = λ x lt q. rw (lt-leb 64 (length m) lt) }
+recorded-answers (Missing r) m = record { whole = λ le. refl; refused = λ h. refl; short = λ x lt q. never-given r x q }
 
 -- the record that an entry or a step leaves
 record-stands : (x : Lookup) (y : Entry) (m : List ℕ) → 64 ≤ length m → toldLookup x ≡ given y →
@@ -93,7 +91,7 @@ record-stands (Found x) y m le q =
 -- ---- the walk's step
 
 -- a step leaves answer and record as the entry call does
-stepped-recorded : (x : Lookup) (n : ℕ) (w m : List ℕ) → (steppedTo x n w m .answer ≡ recorded x m .answer) × (steppedTo x n w m .memory ≡ recorded x m .memory)
+pub stepped-recorded : (x : Lookup) (n : ℕ) (w m : List ℕ) → (steppedTo x n w m .answer ≡ recorded x m .answer) × (steppedTo x n w m .memory ≡ recorded x m .memory)
 stepped-recorded (Missing r) n w m = (refl, refl)
 stepped-recorded (Found x) n w m = room (leb 64 (length m)) refl
   where
@@ -228,7 +226,7 @@ lists-read f e img entries l = go (readImage f e img) refl (l entries (omega ari
         let z : _≡_ {A = ℕ} 0 1 = cc in
         absurd (omega arith)
 
-list-lent : (f e : ℕ) (img m : List ℕ) → ListLent f e img m
+pub list-lent : (f e : ℕ) (img m : List ℕ) → ListLent f e img m
 unfolding listCall listEntries
 list-lent f e img m =
     record {
@@ -279,7 +277,7 @@ lent =
           let n = moved (walkEntry w) x in
           let s = stepped-recorded x n w m in
           record {
-            answers = λ le. s .0 ∙ recorded-answers x m le;
+            answers = rw (s .0) (recorded-answers x m);
             stands = λ y le q. rw (s .1) (record-stands x y m le q);
             onward = step-onward w img m x refl (leb 64 (length m)) refl;
           };

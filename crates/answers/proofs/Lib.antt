@@ -3,3 +3,5 @@ pub mod Whole
 pub mod Readings
 pub mod Records
 pub mod Lent
+pub mod ReadBack
+pub mod FromC

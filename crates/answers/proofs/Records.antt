@@ -50,7 +50,7 @@ word-past front a t = omega (arith, getD-append-add front t a 0, byte 1, byte 2,
     byte : (j : ℕ) → getD (front ++ t) (length front + a + j) 0 ≡ getD t (a + j) 0
     byte j = let q : length front + a + j ≡ length front + (a + j) = omega arith in rw q (getD-append-add front t (a + j) 0)
 
-words-back : (ws : List ℕ) (k : ℕ) → Words ws → k < length ws → word (k * 4) (wordsBytes ws) ≡ getD ws k 0
+pub words-back : (ws : List ℕ) (k : ℕ) → Words ws → k < length ws → word (k * 4) (wordsBytes ws) ≡ getD ws k 0
 unfolding wordsBytes
 words-back [] k none lt = absurd (omega arith)
 words-back (w ∷ ws) zero (also p ps) lt = word-back w (wordsBytes ws) p

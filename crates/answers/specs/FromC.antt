@@ -3,18 +3,23 @@
 -- Assumes nothing.
 use Prim.Native.Nat.{ℕ, _+_, _*_, _≤_, _<_}
 use mathlib.Core.Path.{_≡_}
-use mathlib.Core.List.{List, [], _∷_, map}
+use mathlib.Core.List.{List, [], _∷_, _++_, map}
 use mathlib.Core.Bool.{true}
-use lib.ListN.{length, take}
+use lib.ListN.{length, getD, take, replicate}
 use Rattle.layout.specs.declared.Format.{Format}
+use Rattle.layout.specs.declared.Reading.{Reading}
+use Rattle.layout.specs.declared.Field.{Field}
 use Rattle.layout.specs.Bytes.{oneOf, part}
 use Rattle.layout.specs.Walk.{Content}
+use Rattle.layout.specs.Calls.{toldReading}
 use Rattle.layout.specs.Write.{word, fieldsIn}
 use Rattle.laws.specs.Contents.{replaced}
-use Rattle.laws.specs.Grammar.{Each}
+use Rattle.laws.specs.Grammar.{Each, Published}
+use Rattle.records.specs.Words.{wordsBytes}
 use Rattle.records.specs.Exports.{Given, checkCall, valueCall, stringCall, entryCall, listCall, stepCall, writeCall, editCall}
 use Rattle.promises.specs.Words.{KnownEdition, Serves, Item}
 use Rattle.promises.specs.Names.{Named}
+use Rattle.promises.specs.Kinds.{Means}
 use Rattle.promises.specs.Numbers.{imageNumbers, writeNumbers}
 use Rattle.promises.specs.RoundTrip.{fieldSays}
 use Rattle.answers.specs.Whole.{numberOf, countOf}
@@ -61,6 +66,20 @@ pub record ReadFromC (f e : ℕ) (image : List ℕ) (cs : List Content) : Type 0
   pub listed : (m : List ℕ) → length cs * 64 ≤ length m → listCall f e image m .answer ≡ checkCall f e image
   pub says : (m : List ℕ) → length cs * 64 ≤ length m → (j : ℕ) (c : Content) → Item cs j c → recordSays image (listCall f e image m .memory) j ≡ c
 
+-- ---- how C lends fields
+
+-- a field in 20 bytes: code, key place, key length, value place, value length, each below 2^32
+abbrev pub fieldWords : Field → List ℕ
+fieldWords x = x .code ∷ x .key .place .0 ∷ x .key .len ∷ x .value .place .0 ∷ x .value .len ∷ []
+
+abbrev pub fieldsBytes : List Field → List ℕ
+fieldsBytes [] = []
+fieldsBytes (x ∷ xs) = wordsBytes (fieldWords x) ++ fieldsBytes xs
+
+-- fields one after another are read as they are; a last one that is cut short counts as none
+abbrev pub FieldsFromC : Type 0
+FieldsFromC = (fields : List Field) (cut : List ℕ) → Each (λ x. Each (λ w. w < 4294967296) (fieldWords x)) fields → length cut < 20 → fieldsIn (fieldsBytes fields ++ cut) ≡ fields
+
 -- ---- demand 2
 
 -- what was written reads back, in the whole output and in its part up to the length given
@@ -71,9 +90,24 @@ WrittenFromC =
     let said = map (fieldSays f values) (fieldsIn fields) in
     Bytes output → ReadFromC f e output said × ReadFromC f e (take (countOf (writeCall f e fields values out .answer)) output) said
 
--- every accepted image is read so
-abbrev pub AcceptedFromC : Type 0
-AcceptedFromC = (f e : ℕ) (image : List ℕ) → Bytes image → numberOf (checkCall f e image) ≡ 0 → (cs : List Content) × ReadFromC f e image cs
+-- kind and reading of record j: format × 256 + code and 01's reading exactly where the edition names the code, else 0. The words from 8 on are the reading's number and what it
+-- carries, as docs/C-INTERFACE.md has them, and 0
+pub record KindFromC (f e : ℕ) (format : Format) (image records : List ℕ) (j : ℕ) : Type 0 where
+  pub kind : Named format e (recordWord records j 0) → recordWord records j 1 ≡ f * 256 + recordWord records j 0
+  pub reading : Named format e (recordWord records j 0) →
+      (r : Reading) × Means format (recordWord records j 0) (recordSays image records j .value) r
+      × ((k : ℕ) → k < 8 → recordWord records j (8 + k) ≡ getD (toldReading r ++ replicate 8 0) k 0)
+  pub kindless : (Named format e (recordWord records j 0) → ⊥) → recordWord records j 1 ≡ 0
+  pub unread : (Named format e (recordWord records j 0) → ⊥) → (k : ℕ) → k < 8 → recordWord records j (8 + k) ≡ 0
+
+-- every accepted image is one of the published rules, and is read as those say
+pub record AcceptedFromC (f e : ℕ) (image : List ℕ) : Type 0 where
+  pub format : Format
+  pub serves : Serves f e format
+  pub contents : List Content
+  pub published : Published format e image contents
+  pub read : ReadFromC f e image contents
+  pub kinds : (m : List ℕ) → length contents * 64 ≤ length m → (j : ℕ) → j < length contents → KindFromC f e format image (listCall f e image m .memory) j
 
 -- ---- demand 3
 
@@ -101,7 +135,8 @@ pub record EditedFromC (f n : ℕ) (image : List ℕ) (i : ℕ) (value output : 
 -- o is no newer than n
 pub record FromC : Type 0 where
   pub numbers : NumbersFromC
-  pub accepted : AcceptedFromC
+  pub fields : FieldsFromC
+  pub accepted : (f e : ℕ) (image : List ℕ) → Bytes image → numberOf (checkCall f e image) ≡ 0 → AcceptedFromC f e image
   pub written : WrittenFromC
   pub older : (f o n : ℕ) (image : List ℕ) → Bytes image → KnownEdition o → o ≤ n → numberOf (checkCall f n image) ≡ 0 → OlderFromC f o n image
   pub edited : (f o n : ℕ) (image : List ℕ) (i : ℕ) (value out : List ℕ) → Bytes image → o ≤ n → numberOf (checkCall f n image) ≡ 0 →

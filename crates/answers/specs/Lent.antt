@@ -6,11 +6,12 @@ use mathlib.Core.Path.{_≡_}
 use mathlib.Core.List.{List}
 use lib.ListN.{length, take, drop}
 use Rattle.layout.specs.declared.Entry.{Entry}
-use Rattle.layout.specs.Bytes.{part}
+use Rattle.layout.specs.Bytes.{part, refusal}
+use Rattle.layout.specs.Calls.{Told, toldRefusal}
 use Rattle.records.specs.Packed.{packed}
 use Rattle.records.specs.Words.{recordBytes}
 use Rattle.records.specs.Exports.{Given, entryCall, listCall, writeCall, editCall, walkFormat, walkEdition, walkEntry, stepCall}
-use Rattle.promises.specs.Words.{Item, Lists, tellsList, tellsEntry}
+use Rattle.promises.specs.Words.{IsRefused, Item, Lists, tellsList, tellsEntry}
 use Rattle.promises.specs.Lookups.{given}
 use Rattle.answers.specs.Whole.{numberOf}
 
@@ -39,16 +40,22 @@ pub record ListLent (f e : ℕ) (img m : List ℕ) : Type 0 where
 
 -- ---- one record
 
+-- what an export of one record answers, where the entry tells t: the same; but 12 at 0, after every other refusal, where less than one record is lent
+pub record Answers (t : Told) (m : List ℕ) (answer : ℕ) : Type 0 where
+  pub whole : 64 ≤ length m → answer ≡ packed t
+  pub refused : IsRefused t → answer ≡ packed t
+  pub short : (x : Entry) → length m < 64 → t ≡ given x → answer ≡ packed (toldRefusal (refusal 12 0))
+
 -- the entry export answers as entry n, and leaves its record in the first 64 bytes
 pub record EntryLent (f e : ℕ) (img : List ℕ) (n : ℕ) (m : List ℕ) : Type 0 where
-  pub answers : 64 ≤ length m → entryCall f e img n m .answer ≡ packed (tellsEntry f e img n)
+  pub answers : Answers (tellsEntry f e img n) m (entryCall f e img n m .answer)
   pub stands : (x : Entry) → 64 ≤ length m → tellsEntry f e img n ≡ given x →
       (take 64 (entryCall f e img n m .memory) ≡ recordBytes x) × (drop 64 (entryCall f e img n m .memory) ≡ drop 64 m)
 
 -- a step answers as entry n of the walk's own format, edition and number. Where it is not refused the walk's number is one more, read back from its bytes, and all else in the
 -- walk is as it was
 pub record StepLent (w img m : List ℕ) : Type 0 where
-  pub answers : 64 ≤ length m → stepCall w img m .answer ≡ packed (tellsEntry (walkFormat w) (walkEdition w) img (walkEntry w))
+  pub answers : Answers (tellsEntry (walkFormat w) (walkEdition w) img (walkEntry w)) m (stepCall w img m .answer)
   pub stands : (x : Entry) → 64 ≤ length m → tellsEntry (walkFormat w) (walkEdition w) img (walkEntry w) ≡ given x →
       (take 64 (stepCall w img m .memory) ≡ recordBytes x) × (drop 64 (stepCall w img m .memory) ≡ drop 64 m)
   pub onward : numberOf (stepCall w img m .answer) ≡ 0 →

@@ -27,6 +27,8 @@ module _ (o n : ℕ) (image : List ℕ) (g : Format) (k : KnownEdition o) (le : 
       record {
         says = refl;
         place = refl;
+        key = refl;
+        value = refl;
         kept = λ y.
             let old = named-names g o (r .frame .code) y in
             let new = names-up (shape g) o n (r .frame .code) le old in

@@ -15,6 +15,8 @@ use Rattle.promises.specs.Names.{Named}
 pub record Alike (format : Format) (o : ℕ) (image : List ℕ) (old new : Entry) : Type 0 where
   pub says : said image old ≡ said image new
   pub place : old .place ≡ new .place
+  pub key : old .key ≡ new .key
+  pub value : old .value ≡ new .value
   -- an entry that the older edition names has the same kind and reading
   pub kept : Named format o (old .code) → (old .kind ≡ new .kind) × (old .reading ≡ new .reading)
   -- any other has kind 0 and plain bytes

@@ -1,0 +1,350 @@
+-- Demands 2 and 3, the numbers of each call and the layout of fields, as C sees them.
+-- Assumes nothing.
+use Prim.Native.Nat.{ℕ, zero, suc, _+_, _*_, _-_, _/_, _%_, _≤_, _<_}
+use mathlib.Core.Path.{_≡_, refl, ap, ap₂, sym, _∙_}
+use mathlib.Core.List.{List, [], _∷_, _++_, append-assoc, map}
+use mathlib.Core.Bool.{Bool, true, false}
+use native.Mathlib.Omega.{arith}
+use lib.ListN.{length, getD, take, drop, replicate, length-append, length-replicate, List·getD-append}
+use lib.Seq.{drop-at, getD-take, getD-append-add}
+use lib.Dec.{ltb, leb, eqb}
+use borrow.Author.Tests.{eqb-true, eqb-false, le-ltb, lt-ltb}
+use Rattle.layout.specs.declared.Format.{Format}
+use Rattle.layout.specs.declared.Entry.{Entry}
+use Rattle.layout.specs.declared.Field.{Field}
+use Rattle.layout.specs.declared.Part.{Part}
+use Rattle.layout.specs.declared.Place.{Place}
+use Rattle.layout.specs.declared.Reading.{Reading}
+use Rattle.layout.specs.declared.Checked.{Checked}
+use Rattle.layout.specs.declared.Checked.the-variants.{Accepted, Refused}
+use Rattle.layout.specs.declared.Made.{Made}
+use Rattle.layout.specs.declared.Made.the-variants.{Wrote}
+use Rattle.layout.specs.declared.Lookup.{Lookup}
+use Rattle.layout.specs.declared.Lookup.the-variants.{Found, Missing}
+use Rattle.layout.specs.Bytes.{if, between, all, oneOf, part, partAt, refusal}
+use Rattle.layout.specs.Walk.{Content}
+use Rattle.layout.specs.Calls.{Told, told, toldRefusal, toldChecked, toldLookup, toldReading, checkImage, entryAt, moved, Step, stepFrom}
+use Rattle.layout.specs.Write.{word, fieldAt, fields, fieldsIn, Outcome, writeImage, toldMade}
+use Rattle.layout.specs.Edit.{editEntry}
+use Rattle.records.specs.Packed.{packed}
+use Rattle.records.specs.Words.{wordsBytes, readingWords, recordWords}
+use Rattle.records.specs.Exports.{Given, recorded, entryCall, listCall, walkFormat, walkEdition, walkEntry, stepCall, checkCall, writeCall, editCall}
+use Rattle.laws.specs.Contents.{said, replaced}
+use Rattle.laws.specs.Grammar.{Each, none, also as andAlso}
+use Rattle.promises.specs.Words.{Numbered, fboss, vpd, tiny, KnownEdition, Counts, Item, here, there, Lists, Reads, tellsCheck, tellsWrite, tellsEdit, tellsEntry}
+use Rattle.promises.specs.Names.{Named}
+use Rattle.promises.specs.Kinds.{Means, Marked, MarkedList}
+use Rattle.promises.specs.RoundTrip.{fieldSays}
+use Rattle.promises.specs.OlderReads.{Alike, AllAlike, also}
+use Rattle.promises.specs.Numbers.{Gives, taken, refused, imageNumbers, writeNumbers}
+use Rattle.promises.proofs.FormatNumbers.{tabled}
+use Rattle.promises.proofs.Numbers.{call-numbers}
+use Rattle.promises.proofs.Refusals.{farthest}
+use Rattle.promises.proofs.Entries.{CheckedIn}
+use Rattle.promises.proofs.ReadCalls.{checked-in}
+use Rattle.promises.proofs.WriteCalls.{MadeLow, editNumbers, edited-low, written-low}
+use Rattle.promises.proofs.Telling.{written-some, edited-some}
+use Rattle.promises.proofs.PublishedRules.{published-rules}
+use Rattle.promises.proofs.RecordKinds.{kinds}
+use Rattle.promises.proofs.RoundTrip.{round-trip}
+use Rattle.promises.proofs.OlderReads.{older-reads}
+use Rattle.promises.proofs.OlderEdits.{older-edits}
+use Rattle.answers.specs.Whole.{numberOf, countOf}
+use Rattle.answers.specs.FromC.{Bytes, OneOf, NumbersFromC, FieldsFromC, fieldWords, fieldsBytes, recordWord, recordSays, ReadFromC, KindFromC, AcceptedFromC, WrittenFromC, SameRecord, OlderFromC, EditedFromC, FromC}
+use Rattle.answers.proofs.Records.{words-back}
+use Rattle.answers.proofs.Lent.{packed-taken, list-lent, stepped-recorded}
+use Rattle.answers.proofs.Packing.{whole-told}
+use Rattle.answers.proofs.Whole.{whole-reads}
+use Rattle.answers.proofs.Readings.{each-take}
+use Rattle.answers.proofs.ReadBack.{blank, each-item, item-some, length-map, record-words, record-said, reads-back}
+
+-- ---- numbers
+
+-- C takes out the number that is told
+pub told-number : (t : Told) → t .number < 32 → numberOf (packed t) ≡ t .number
+unfolding packed
+told-number t lt = go (eqb (t .number) 0) refl
+  where
+    go : (b : Bool) → eqb (t .number) 0 ≡ b → numberOf (packed t) ≡ t .number
+    go true e = let z = eqb-true (t .number) 0 e in rw e (omega arith)
+    go false e = rw e (omega arith)
+
+gives-one : (numbers : List ℕ) (t : Told) → all (between 1 16) numbers ≡ true → Gives numbers t → OneOf numbers (packed t)
+unfolding oneOf
+gives-one numbers t table (taken {n} {x} {es}) = rw (packed-taken t refl)
+gives-one numbers t table (refused {n} {p} h) =
+    let small = tabled numbers n table h in
+    rw (told-number t (omega arith)) (go (eqb n 0))
+  where
+    go : (b : Bool) → if b (λ _. true) (λ _. oneOf numbers n) ≡ true
+    go true = refl
+    go false = h
+
+-- one more number in a list
+one-more : (x : ℕ) (numbers : List ℕ) (answer : ℕ) → OneOf numbers answer → OneOf (x ∷ numbers) answer
+unfolding oneOf
+one-more x numbers answer h = go (eqb (numberOf answer) 0) (eqb (numberOf answer) x) h
+  where
+    go : (a b : Bool) → if a (λ _. true) (λ _. oneOf numbers (numberOf answer)) ≡ true →
+        if a (λ _. true) (λ _. if b (λ _. true) (λ _. oneOf numbers (numberOf answer))) ≡ true
+    go true b h = refl
+    go false true h = refl
+    go false false h = h
+
+-- 12, or what the entry tells
+recorded-one : (x : Lookup) (m : List ℕ) → OneOf (13 ∷ imageNumbers) (packed (toldLookup x)) → OneOf (12 ∷ 13 ∷ imageNumbers) (recorded x m .answer)
+unfolding oneOf packed
+recorded-one (Missing r) m h = one-more 12 (13 ∷ imageNumbers) (packed (toldRefusal r)) h
+recorded-one (Found x) m h = go (leb 64 (length m)) refl
+  where
+    go : (b : Bool) → leb 64 (length m) ≡ b → OneOf (12 ∷ 13 ∷ imageNumbers) (recorded (Found x) m .answer)
+    go true e = rw e (one-more 12 (13 ∷ imageNumbers) (packed (toldLookup (Found x))) h)
+    go false e = rw e
+
+pub numbers-from-c : NumbersFromC
+unfolding all entryCall stepCall stepFrom
+numbers-from-c =
+    record {
+      checked = λ f e img. gives-one imageNumbers _ refl (call-numbers .checked f e img);
+      listed = λ f e img m.
+          let records : List Entry = replicate (length m / 64) blank in
+          rw (list-lent f e img m .answers records (length-replicate (length m / 64) blank)) (gives-one (12 ∷ imageNumbers) _ refl (call-numbers .listed f e img records));
+      entry = λ f e img n m. recorded-one (entryAt f e img n) m (gives-one (13 ∷ imageNumbers) _ refl (call-numbers .entry f e img n));
+      value = λ f e img n. gives-one (13 ∷ imageNumbers) _ refl (call-numbers .value f e img n);
+      string = λ f e img number. gives-one (15 ∷ imageNumbers) _ refl (call-numbers .string f e img number);
+      stepped = λ w img m.
+          let x = entryAt (walkFormat w) (walkEdition w) img (walkEntry w) in
+          rw (stepped-recorded x (moved (walkEntry w) x) w m .0)
+          (recorded-one x m (gives-one (13 ∷ imageNumbers) _ refl (call-numbers .entry (walkFormat w) (walkEdition w) img (walkEntry w))));
+      written = λ f e xs values out. gives-one writeNumbers _ refl (call-numbers .written f e (fieldsIn xs) values out);
+      edited = λ f e img n v out. gives-one (13 ∷ 14 ∷ 12 ∷ imageNumbers) _ refl (call-numbers .edited f e img n v out);
+    }
+
+-- ---- fields
+
+length-fields : (x : Field) → length (wordsBytes (fieldWords x)) ≡ 20
+unfolding wordsBytes
+length-fields x = refl
+
+-- a word of the bytes before others
+word-before : (s t : List ℕ) (a : ℕ) → a + 4 ≤ length s → word a (s ++ t) ≡ word a s
+word-before s t a le =
+    omega (arith, List·getD-append s t 0 a (omega arith), List·getD-append s t 0 (a + 1) (omega arith), List·getD-append s t 0 (a + 2) (omega arith), List·getD-append s t 0 (a + 3) (omega arith))
+
+-- the five words of a field are read back
+field-back : (x : Field) (t : List ℕ) → Each (λ w. w < 4294967296) (fieldWords x) → fieldAt (wordsBytes (fieldWords x) ++ t) ≡ x
+field-back x t fits =
+    let s : List ℕ = wordsBytes (fieldWords x) in
+    let back : (k : ℕ) → k < 5 → word (k * 4) (s ++ t) ≡ getD (fieldWords x) k 0
+    = (λ k lt. word-before s t (k * 4) (omega (arith, length-fields x)) ∙ words-back (fieldWords x) k fits (omega arith)) in
+    rw (back 0 (omega arith), back 1 (omega arith), back 2 (omega arith), back 3 (omega arith), back 4 (omega arith))
+
+fields-back : (n : ℕ) (xs : List Field) (cut : List ℕ) → Each (λ x. Each (λ w. w < 4294967296) (fieldWords x)) xs → length cut < 20 → length (fieldsBytes xs ++ cut) ≤ n → fields n (fieldsBytes xs ++ cut) ≡ xs
+unfolding fields
+fields-back zero [] cut none lt le = refl
+fields-back (suc n) [] cut none lt le = rw (lt-ltb (length cut) 20 lt)
+fields-back zero (x ∷ xs) cut (andAlso p ps) lt le =
+    absurd (omega (arith, length-fields x, length-append (wordsBytes (fieldWords x)) (fieldsBytes xs), length-append (wordsBytes (fieldWords x) ++ fieldsBytes xs) cut))
+fields-back (suc n) (x ∷ xs) cut (andAlso p ps) lt le =
+    let s : List ℕ = wordsBytes (fieldWords x) in
+    let rest : List ℕ = fieldsBytes xs ++ cut in
+    let whole : (s ++ fieldsBytes xs) ++ cut ≡ s ++ rest = append-assoc s (fieldsBytes xs) cut in
+    let long : length (s ++ rest) ≡ 20 + length rest = length-append s rest ∙ ap (λ (k : ℕ). k + length rest) (length-fields x) in
+    let fits : length (s ++ rest) ≤ suc n = rw whole at le in
+    rw (whole, le-ltb (length (s ++ rest)) 20 (omega arith), field-back x rest p, drop-at s rest 20 (length-fields x))
+    (ap (λ (ys : List Field). x ∷ ys) (fields-back n xs cut ps lt (omega arith)))
+
+pub fields-from-c : FieldsFromC
+unfolding fieldsIn
+fields-from-c xs cut fits lt = fields-back (length (fieldsBytes xs ++ cut)) xs cut fits lt (omega arith)
+
+-- ---- what C sees taken is taken
+
+gives-zero : (numbers : List ℕ) (t : Told) → all (between 1 16) numbers ≡ true → Gives numbers t → numberOf (packed t) ≡ 0 → t .number ≡ 0
+gives-zero numbers t table taken z = refl
+gives-zero numbers t table (refused {n} {p} h) z = let small = tabled numbers n table h in sym (told-number t (omega arith)) ∙ z
+
+module _ (f e : ℕ) (image : List ℕ) (z : numberOf (checkCall f e image) ≡ 0) where
+  check-counts : (n : ℕ) × Counts (tellsCheck f e image) n
+  unfolding all
+  check-counts = go (checkImage f e image) refl (checked-in f e image) (gives-zero imageNumbers (tellsCheck f e image) refl (call-numbers .checked f e image) z)
+    where
+      go : (x : Checked) → checkImage f e image ≡ x → CheckedIn x → tellsCheck f e image .number ≡ 0 → (n : ℕ) × Counts (tellsCheck f e image) n
+      go (Accepted n) q l y = (n, ap toldChecked q)
+      go (Refused r) q l y = absurd (omega (arith, rw q at y, tabled imageNumbers (r .number) refl (l .number)))
+
+-- the length of an image that was made is taken out whole
+made-counts : (numbers : List ℕ) (most : ℕ) (x : Made) (n : ℕ) → x ≡ Wrote n → MadeLow numbers most x → countOf (packed (toldMade x)) ≡ n
+made-counts numbers most x n q l =
+    let l′ : MadeLow numbers most (Wrote n) = rw q at l in
+    rw q (whole-told n (partAt 0 0) [] (omega arith) (omega arith) .count refl)
+
+module _ (f e : ℕ) (xs values out : List ℕ) (z : numberOf (writeCall f e xs values out .answer) ≡ 0) where
+  write-counts : Counts (tellsWrite f e (fieldsIn xs) values out) (countOf (writeCall f e xs values out .answer))
+  unfolding all
+  write-counts =
+      let t = tellsWrite f e (fieldsIn xs) values out in
+      let w = written-some f e (fieldsIn xs) values out (gives-zero writeNumbers t refl (call-numbers .written f e (fieldsIn xs) values out) z) in
+      let n = made-counts writeNumbers _ (writeImage f e (fieldsIn xs) values out .answer) (w .0) (w .1) (written-low f e (fieldsIn xs) values out) in
+      rw n (ap toldMade (w .1))
+
+module _ (f e : ℕ) (image : List ℕ) (i : ℕ) (v out : List ℕ) (z : numberOf (editCall f e image i v out .answer) ≡ 0) where
+  edit-counts : Counts (tellsEdit f e image i v out) (countOf (editCall f e image i v out .answer))
+  unfolding all
+  edit-counts =
+      let t = tellsEdit f e image i v out in
+      let w = edited-some f e image i v out (gives-zero (13 ∷ 14 ∷ 12 ∷ imageNumbers) t refl (call-numbers .edited f e image i v out) z) in
+      let n = made-counts editNumbers farthest (editEntry f e image i v out .answer) (w .0) (w .1) (edited-low f e image i v out) in
+      rw n (ap toldMade (w .1))
+
+-- ---- demand 2
+
+same-format : {f : ℕ} {g h : Format} → Numbered f g → Numbered f h → g ≡ h
+same-format fboss fboss = refl
+same-format vpd vpd = refl
+same-format tiny tiny = refl
+
+none-at : (n k : ℕ) → getD {A = ℕ} (replicate n 0) k 0 ≡ 0
+none-at zero k = refl
+none-at (suc n) zero = refl
+none-at (suc n) (suc k) = none-at n k
+
+-- the words of a record's reading
+reading-word : (x : Entry) (k : ℕ) → k < 8 → getD (recordWords x) (8 + k) 0 ≡ getD (toldReading (x .reading) ++ replicate 8 0) k 0
+reading-word x k lt =
+    let front : List ℕ = x .code ∷ x .kind ∷ x .place .0 ∷ x .key .place .0 ∷ x .key .len ∷ x .value .place .0 ∷ x .value .len ∷ 0 ∷ [] in
+    getD-append-add front (readingWords (x .reading)) k 0 ∙ getD-take 8 (toldReading (x .reading) ++ replicate 8 0) k 0 lt
+
+module _ (f e : ℕ) (format : Format) (image records : List ℕ) (j : ℕ) (x : Entry) (words : (k : ℕ) → k < 16 → recordWord records j k ≡ getD (recordWords x) k 0)
+    (says : recordSays image records j ≡ said image x) (m : Marked f e format image x) where
+  code : recordWord records j 0 ≡ x .code
+  code = words 0 (omega arith)
+
+  value : part (recordWord records j 5) (recordWord records j 6) image ≡ said image x .value
+  value = ap (λ (c : Content). c .value) says
+
+  carried : (k : ℕ) → k < 8 → recordWord records j (8 + k) ≡ getD (toldReading (x .reading) ++ replicate 8 0) k 0
+  carried k lt = words (8 + k) (omega arith) ∙ reading-word x k lt
+
+  kind-from-c : KindFromC f e format image records j
+  unfolding toldReading
+  kind-from-c =
+      record {
+        kind = λ y. words 1 (omega arith) ∙ m .named (rw code at y) .0 ∙ ap (λ (c : ℕ). f * 256 + c) (sym code);
+        reading = λ y. (x .reading, rw (code, value) (m .named (rw code at y) .1), carried);
+        kindless = λ y. words 1 (omega arith) ∙ m .unnamed (rw code at y) .0;
+        unread = λ y k lt. carried k lt ∙ ap (λ (r : Reading). getD (toldReading r ++ replicate 8 0) k 0) (m .unnamed (rw code at y) .1) ∙ none-at 9 k;
+      }
+
+module _ (f e : ℕ) (image : List ℕ) (bs : Bytes image) (n : ℕ) (c : Counts (tellsCheck f e image) n) where
+  accepted-from-c : AcceptedFromC f e image
+  accepted-from-c =
+      let g = published-rules .accepted-is f e image n c in
+      let k = kinds f e image n c in
+      let same : k .format ≡ g .format = same-format (k .serves .number) (g .serves .number) in
+      let long : length (g .contents) ≡ n =
+      ap length (sym (g .reads .says)) ∙ length-map (said image) (g .reads .entries) ∙ ap (λ (t : Told). t .count) (sym (g .reads .accepted) ∙ c) in
+      record {
+        format = g .format;
+        serves = g .serves;
+        contents = g .contents;
+        published = g .published;
+        read = reads-back f e image (g .contents) bs (g .reads);
+        kinds = λ m fits j lt.
+            let room : length (k .entries) * 64 ≤ length m = omega (arith, k .counted) in
+            let i = item-some (k .entries) j (omega (arith, k .counted)) in
+            rw (← same)
+            (kind-from-c f e (k .format) image (listCall f e image m .memory) j (i .0) (record-words f e image bs (k .entries) (k .listed) m room j (i .0) (i .1))
+            (record-said f e image bs (k .entries) (k .listed) m room j (i .0) (i .1)) (each-item (k .marked) (i .1)));
+      }
+
+written-from-c : WrittenFromC
+written-from-c f e xs values out z bs =
+    let n = countOf (writeCall f e xs values out .answer) in
+    let output : List ℕ = writeCall f e xs values out .memory in
+    let r = round-trip f e (fieldsIn xs) values out n (write-counts f e xs values out z) in
+    let cs : List Content = map (fieldSays f values) (fieldsIn xs) in
+    (reads-back f e output cs bs (r .0), reads-back f e (take n output) cs (each-take n output bs) (r .1))
+
+-- ---- demand 3
+
+alike-item : {g : Format} {o : ℕ} {image : List ℕ} {xs ys : List Entry} {j : ℕ} {x : Entry} → AllAlike g o image xs ys → Item xs j x → (y : Entry) × Item ys j y × Alike g o image x y
+alike-item (also {y = y} a more) here = (y, here, a)
+alike-item (also a more) (there i) = let r = alike-item more i in (r .0, there (r .1), r .2)
+
+module _ (g : Format) (o : ℕ) (image older newer : List ℕ) (j : ℕ) (x y : Entry) (a : Alike g o image x y)
+    (old : (k : ℕ) → k < 16 → recordWord older j k ≡ getD (recordWords x) k 0) (new : (k : ℕ) → k < 16 → recordWord newer j k ≡ getD (recordWords y) k 0) where
+  same-code : x .code ≡ y .code
+  unfolding said
+  same-code = ap (λ (c : Content). c .code) (a .says)
+
+  same-places : (k : ℕ) → k < 8 → (k ≡ 1 → ⊥) → getD (recordWords x) k 0 ≡ getD (recordWords y) k 0
+  same-places zero lt other = same-code
+  same-places (suc zero) lt other = absurd (other refl)
+  same-places (suc (suc zero)) lt other = ap (λ (p : Place). p .0) (a .place)
+  same-places (suc (suc (suc zero))) lt other = ap (λ (p : Part). p .place .0) (a .key)
+  same-places (suc (suc (suc (suc zero)))) lt other = ap (λ (p : Part). p .len) (a .key)
+  same-places (suc (suc (suc (suc (suc zero))))) lt other = ap (λ (p : Part). p .place .0) (a .value)
+  same-places (suc (suc (suc (suc (suc (suc zero)))))) lt other = ap (λ (p : Part). p .len) (a .value)
+  same-places (suc (suc (suc (suc (suc (suc (suc zero))))))) lt other = refl
+  same-places (suc (suc (suc (suc (suc (suc (suc (suc k)))))))) lt other = absurd (omega arith)
+
+  same-record : SameRecord g o older newer j
+  unfolding toldReading
+  same-record =
+      let code : recordWord older j 0 ≡ x .code = old 0 (omega arith) in
+      record {
+        placed = λ k lt other. old k (omega arith) ∙ same-places k lt other ∙ sym (new k (omega arith));
+        named = λ n k lt.
+            let q = a .kept (rw code at n) in
+            let c = same-code in
+            let p = a .place in
+            let u = a .key in
+            let v = a .value in
+            let d = q .0 in
+            let r = q .1 in
+            let words : recordWords x ≡ recordWords y = cc in
+            old k lt ∙ ap (λ (l : List ℕ). getD l k 0) words ∙ sym (new k lt);
+        kindless = λ n. old 1 (omega arith) ∙ a .plain (rw code at n) .0;
+        unread = λ n k ge lt.
+            let i : 8 + (k - 8) ≡ k = omega arith in
+            old k lt ∙ ap (λ (b : ℕ). getD (recordWords x) b 0) (sym i) ∙ reading-word x (k - 8) (omega arith)
+            ∙ ap (λ (r : Reading). getD (toldReading r ++ replicate 8 0) (k - 8) 0) (a .plain (rw code at n) .1) ∙ none-at 9 (k - 8);
+      }
+
+older-from-c : (f o n : ℕ) (image : List ℕ) (bs : Bytes image) (count : ℕ) → KnownEdition o → o ≤ n → Counts (tellsCheck f n image) count → OlderFromC f o n image
+older-from-c f o n image bs count known le c =
+    let r = older-reads f o n image count known le c in
+    let counted : countOf (checkCall f n image) ≡ count = whole-reads .checked f n image .count (ap (λ (t : Told). t .number) c) ∙ ap (λ (t : Told). t .count) c in
+    record {
+      format = r .format;
+      serves = r .serves;
+      accepted = ap packed (r .accepted ∙ sym c);
+      alike = λ m fits j lt.
+          let i = item-some (r .older) j (omega (arith, counted, r .counted .0)) in
+          let y = alike-item (r .alike) (i .1) in
+          same-record (r .format) o image (listCall f o image m .memory) (listCall f n image m .memory) j (i .0) (y .0) (y .2)
+          (record-words f o image bs (r .older) (r .listed .0) m (omega (arith, counted, r .counted .0)) j (i .0) (i .1))
+          (record-words f n image bs (r .newer) (r .listed .1) m (omega (arith, counted, r .counted .1)) j (y .0) (y .1));
+    }
+
+pub from-c : FromC
+from-c =
+    record {
+      numbers = numbers-from-c;
+      fields = fields-from-c;
+      accepted = λ f e image bs z. let c = check-counts f e image z in accepted-from-c f e image bs (c .0) (c .1);
+      written = written-from-c;
+      older = λ f o n image bs k le z. let c = check-counts f n image z in older-from-c f o n image bs (c .0) k le (c .1);
+      edited = λ f o n image i v out bs le z y outBytes.
+          let c = check-counts f n image z in
+          let m = countOf (editCall f o image i v out .answer) in
+          let output : List ℕ = editCall f o image i v out .memory in
+          let r = older-edits f o n image (c .0) i v out m le (c .1) (edit-counts f o image i v out y) in
+          record {
+            former = r .former;
+            before = reads-back f n image (r .former) bs (r .before);
+            whole = reads-back f n output (replaced (r .former) i v) outBytes (r .whole);
+            front = reads-back f n (take m output) (replaced (r .former) i v) (each-take m output outBytes) (r .front);
+          };
+    }
