@@ -211,16 +211,16 @@ fn judge_image(
     }
 }
 
-// The same with a filter for any number of keys, of 49,152 bytes.
+// The same with a filter for any number of keys.
 fn judge_many(format: Format, edition: u32, image: &[u8], start: usize, end: usize) -> Judgement
     requires { ⌜ (start ≤ end) × IsDone (walked format (now image) start end) ⌝ }
     ensures { λ r. ⌜ r ≡ judged format edition (rawsIn (walked format (now (image .entry)) start end)) start ⌝ }
 {
-    let mut filter = [0u64; 6144];
+    let mut filter = [0u64; keys::MANY];
     judge_image(&mut filter, format, edition, image, start, end)
 }
 
-// The same with the filter that is lent, which serves two keys for each word, or with a larger one.
+// The same with the filter that is lent, or with a larger one where more words are asked for.
 // It calls itself, and so the compiler gives it no room for the filter of judge_many, which a call on few keys would have to touch.
 fn judge_sized(
     filter: &mut [u64],
@@ -229,17 +229,17 @@ fn judge_sized(
     image: &[u8],
     start: usize,
     end: usize,
-    keys: usize,
+    words: usize,
 ) -> Judgement
     requires { ⌜ (start ≤ end) × IsDone (walked format (now image) start end) ⌝ }
     ensures { λ r. ⌜ r ≡ judged format edition (rawsIn (walked format (now (image .entry)) start end)) start ⌝ }
 {
-    if keys / 2 <= filter.len() {
+    if words <= filter.len() {
         return judge_image(filter, format, edition, image, start, end);
     }
-    if keys <= 512 {
-        let mut larger = [0u64; 256];
-        return judge_sized(&mut larger, format, edition, image, start, end, keys);
+    if words <= keys::MORE {
+        let mut larger = [0u64; keys::MORE];
+        return judge_sized(&mut larger, format, edition, image, start, end, words);
     }
     judge_many(format, edition, image, start, end)
 }
@@ -256,13 +256,13 @@ fn judge_entries(
     requires { ⌜ (start ≤ end) × IsDone (walked format (now image) start end) ⌝ }
     ensures { λ r. ⌜ r ≡ judged format edition (rawsIn (walked format (now (image .entry)) start end)) start ⌝ }
 {
-    let keys = keys::key_count(format, count);
-    if keys <= 3 {
+    let words = keys::filter_words(format, count);
+    if words == 0 {
         let mut none = [0u64; 0];
         return judge_image(&mut none, format, edition, image, start, end);
     }
-    let mut filter = [0u64; 64];
-    judge_sized(&mut filter, format, edition, image, start, end, keys)
+    let mut filter = [0u64; keys::FEW];
+    judge_sized(&mut filter, format, edition, image, start, end, words)
 }
 
 fn refused(number: u32, place: usize) -> Taken

@@ -5,7 +5,7 @@ use mathlib.Core.List.{List, [], _∷_}
 use mathlib.Core.Bool.{Bool, true}
 use lib.ListN.{length, getD, set}
 use lib.Bits.{bitOr}
-use lib.Dec.{eqb}
+use lib.Dec.{leb, eqb}
 use Rattle.layout.specs.declared.Format.{Format}
 use Rattle.layout.specs.declared.Format.the-variants.{Fboss, Vpd, Tiny}
 use Rattle.layout.specs.Bytes.{if}
@@ -57,3 +57,21 @@ abbrev pub keyCount : Format → ℕ → ℕ
 keyCount Fboss n = 0
 keyCount Vpd n = n
 keyCount Tiny n = 0
+
+-- the words of a filter for few keys, for more of them, and for any number
+abbrev pub fewWords : ℕ
+fewWords = 64
+
+abbrev pub moreWords : ℕ
+moreWords = 256
+
+abbrev pub manyWords : ℕ
+manyWords = 6144
+
+-- the words of the filter for so many keys: none for three or fewer, else the first of these sizes that has a word for each two of them, or the largest
+unfoldable pub filterWords : ℕ → ℕ
+filterWords keys =
+    if (leb keys 3) (λ _. 0)
+    (λ _. if (leb (keys / 2) fewWords) (λ _. fewWords)
+    (λ _. if (leb (keys / 2) moreWords) (λ _. moreWords)
+    (λ _. manyWords)))

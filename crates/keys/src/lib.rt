@@ -1,7 +1,7 @@
 // A filter of keys, in words that the caller lends: a key that it does not know was never noted in it.
 ghost use mathlib.Core.Path.{_≡_};
 ghost use Prim.Native.Nat.{_<_};
-ghost use Rattle.keys.specs.Filter.{hashByte, hashed, wordAt, bitAt, mask, mayKnow, noted, mayRepeat, withKey, keyCount};
+ghost use Rattle.keys.specs.Filter.{hashByte, hashed, wordAt, bitAt, mask, mayKnow, noted, mayRepeat, withKey, keyCount, filterWords};
 use layout::Format;
 
 // One byte taken into a hash.
@@ -73,8 +73,15 @@ pub fn note_key(filter: &mut [u64], code: u32, key: &[u8]) -> bool
     set_bits(filter, key)
 }
 
+// The sizes of a filter in words, two keys to a word: for few keys, for more of them, and for any number.
+pub const FEW: usize = 64;
+
+pub const MORE: usize = 256;
+
+pub const MANY: usize = 6144;
+
 // How many keys there can be among so many entries.
-pub fn key_count(format: Format, count: usize) -> usize
+fn key_count(format: Format, count: usize) -> usize
     ensures { λ r. ⌜ r ≡ keyCount format count ⌝ }
 {
     match format {
@@ -82,4 +89,21 @@ pub fn key_count(format: Format, count: usize) -> usize
         Format::Vpd => count,
         Format::Tiny => 0,
     }
+}
+
+// The size of the filter for so many entries, in words: none for three keys or fewer.
+pub fn filter_words(format: Format, count: usize) -> usize
+    ensures { λ r. ⌜ r ≡ filterWords (keyCount format count) ⌝ }
+{
+    let keys = key_count(format, count);
+    if keys <= 3 {
+        return 0;
+    }
+    if keys / 2 <= FEW {
+        return FEW;
+    }
+    if keys / 2 <= MORE {
+        return MORE;
+    }
+    MANY
 }

@@ -169,15 +169,15 @@ fn judge_all(
     Fields::Unsound(11, 0)
 }
 
-// The same with a filter for any number of keys, of 49,152 bytes.
+// The same with a filter for any number of keys.
 fn judge_many(format: Format, edition: u32, fields: &[u8], values: &[u8]) -> Fields
     ensures { λ r. ⌜ r ≡ judgedFields format edition (fieldsIn (now (fields .entry))) (now (values .entry)) ⌝ }
 {
-    let mut filter = [0u64; 6144];
+    let mut filter = [0u64; keys::MANY];
     judge_all(&mut filter, format, edition, fields, values)
 }
 
-// The same with the filter that is lent, which serves two keys for each word, or with a larger one.
+// The same with the filter that is lent, or with a larger one where more words are asked for.
 // It calls itself, and so the compiler gives it no room for the filter of judge_many, which a call on few keys would have to touch.
 fn judge_sized(
     filter: &mut [u64],
@@ -185,16 +185,16 @@ fn judge_sized(
     edition: u32,
     fields: &[u8],
     values: &[u8],
-    keys: usize,
+    words: usize,
 ) -> Fields
     ensures { λ r. ⌜ r ≡ judgedFields format edition (fieldsIn (now (fields .entry))) (now (values .entry)) ⌝ }
 {
-    if keys / 2 <= filter.len() {
+    if words <= filter.len() {
         return judge_all(filter, format, edition, fields, values);
     }
-    if keys <= 512 {
-        let mut larger = [0u64; 256];
-        return judge_sized(&mut larger, format, edition, fields, values, keys);
+    if words <= keys::MORE {
+        let mut larger = [0u64; keys::MORE];
+        return judge_sized(&mut larger, format, edition, fields, values, words);
     }
     judge_many(format, edition, fields, values)
 }
@@ -203,11 +203,11 @@ fn judge_sized(
 pub fn judge_fields(format: Format, edition: u32, fields: &[u8], values: &[u8]) -> Fields
     ensures { λ r. ⌜ r ≡ judgedFields format edition (fieldsIn (now (fields .entry))) (now (values .entry)) ⌝ }
 {
-    let keys = keys::key_count(format, fields::count_fields(fields));
-    if keys <= 3 {
+    let words = keys::filter_words(format, fields::count_fields(fields));
+    if words == 0 {
         let mut none = [0u64; 0];
         return judge_all(&mut none, format, edition, fields, values);
     }
-    let mut filter = [0u64; 64];
-    judge_sized(&mut filter, format, edition, fields, values, keys)
+    let mut filter = [0u64; keys::FEW];
+    judge_sized(&mut filter, format, edition, fields, values, words)
 }

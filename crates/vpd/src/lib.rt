@@ -90,16 +90,18 @@ fn key_rule(key: &[u8]) -> bool
     true
 }
 
-pub fn vpd_reader_key(code: u32, key: &[u8]) -> bool
-    ensures { λ r. ⌜ r ≡ vpdReaderKey code (now (key .entry)) ⌝ }
-{
-    if code == 0x01 { key_rule(key) } else { true }
-}
-
+// The writer's rule on a key.
 pub fn vpd_writer_key(code: u32, key: &[u8]) -> bool
     ensures { λ r. ⌜ r ≡ vpdWriterKey code (now (key .entry)) ⌝ }
 {
     if code == 0x01 { key_rule(key) } else { true }
+}
+
+// The reader's rule on a key, which is the writer's.
+pub fn vpd_reader_key(code: u32, key: &[u8]) -> bool
+    ensures { λ r. ⌜ r ≡ vpdReaderKey code (now (key .entry)) ⌝ }
+{
+    vpd_writer_key(code, key)
 }
 
 pub fn vpd_rule(code: u32, v: &[u8]) -> bool

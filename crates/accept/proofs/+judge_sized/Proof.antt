@@ -1,4 +1,4 @@
--- `accept::judge_sized` meets its contract: it calls itself with a filter that is large enough.
+-- `accept::judge_sized` meets its contract: it calls itself with a filter that is large enough. The measure is what the filter lacks of the size that it calls itself with.
 -- Assumes nothing.
 use Prim.Native.Nat.{ℕ, _-_, _<_}
 use borrow.Author.Needs.{needs}
@@ -6,59 +6,33 @@ use denote.Ref.{now}
 use lib.ListN.{length}
 use borrow.Fn.Kinds.{In}
 use borrow.Fn.PlainCycle.{Measures, is, falls, and}
-use Rattle.accept.proofs.judge_sized.Reads as judge-sized
-use Rattle.accept.proofs.judge_sized.Kinds as judge-sized-kinds
-use Rattle.accept.proofs.+judge_sized.Lts-judge_sized as judge-sized-lts
-use Rattle.accept.proofs.judge_image.Reads as judge-image-reads
-use Rattle.accept.proofs.judge_many.Reads as judge-many-reads
+use Rattle.keys.specs.Filter.{moreWords}
+use Rattle.accept.proofs.judge_sized.Reads as sized
+use Rattle.accept.proofs.judge_sized.Kinds as kinds
+use Rattle.accept.proofs.+judge_sized.Lts-judge_sized as lts
+use Rattle.accept.proofs.judge_image.Reads as one
+use Rattle.accept.proofs.judge_many.Reads as many
 use Rattle.accept.proofs.+judge_sized.{statement}
 use Rattle.accept.proofs.+judge_sized.Tie.{close}
 
-abbrev μ-judge-sized : Measures 2 judge-sized-kinds.ps ℕ
-μ-judge-sized κs a = 256 - length (now (a .0))
+abbrev μ : Measures 2 kinds.ps ℕ
+μ κs a = moreWords - length (now (a .0))
 
-abbrev judge-sized-at : ℕ → In 2 judge-sized-kinds.ps
-judge-sized-at t =
-    and 2 judge-sized-kinds.ps (is 2 judge-sized-kinds.ps μ-judge-sized t) judge-sized.Pre
+abbrev at : ℕ → In 2 kinds.ps
+at t = and 2 kinds.ps (is 2 kinds.ps μ t) sized.Pre
 
-abbrev judge-sized-below : ℕ → In 2 judge-sized-kinds.ps
-judge-sized-below t =
-    and 2 judge-sized-kinds.ps (falls 2 judge-sized-kinds.ps _<_ μ-judge-sized t) judge-sized.Pre
-
-judge-sized-judge-image-requires : (t : ℕ) → judge-sized-lts.Need-judge-image-requires (judge-image-reads.Asked, judge-image-reads.Learnt, judge-sized-below t, judge-sized.Post, judge-many-reads.Asked, judge-many-reads.Learnt) (judge-sized-at t) judge-sized.Post
-judge-sized-judge-image-requires t c κs = search needs
-
-judge-sized-same-length : (t : ℕ) → judge-sized-lts.Need-same-length (judge-image-reads.Asked, judge-image-reads.Learnt, judge-sized-below t, judge-sized.Post, judge-many-reads.Asked, judge-many-reads.Learnt) (judge-sized-at t) judge-sized.Post
-judge-sized-same-length t c = search needs
-
-judge-sized-returns : (t : ℕ) → judge-sized-lts.Need-returns (judge-image-reads.Asked, judge-image-reads.Learnt, judge-sized-below t, judge-sized.Post, judge-many-reads.Asked, judge-many-reads.Learnt) (judge-sized-at t) judge-sized.Post
-judge-sized-returns t c = search needs
-
-judge-sized-slice-aggregate-judge-sized :
-    (t : ℕ) → judge-sized-lts.Need-slice-aggregate-judge-sized (judge-image-reads.Asked, judge-image-reads.Learnt, judge-sized-below t, judge-sized.Post, judge-many-reads.Asked, judge-many-reads.Learnt) (judge-sized-at t) judge-sized.Post
-judge-sized-slice-aggregate-judge-sized t c = search needs
-
-judge-sized-judge-sized-requires : (t : ℕ) → judge-sized-lts.Need-judge-sized-requires (judge-image-reads.Asked, judge-image-reads.Learnt, judge-sized-below t, judge-sized.Post, judge-many-reads.Asked, judge-many-reads.Learnt) (judge-sized-at t) judge-sized.Post
-judge-sized-judge-sized-requires t c κs = search needs
-
-judge-sized-returns-2 : (t : ℕ) → judge-sized-lts.Need-returns-2 (judge-image-reads.Asked, judge-image-reads.Learnt, judge-sized-below t, judge-sized.Post, judge-many-reads.Asked, judge-many-reads.Learnt) (judge-sized-at t) judge-sized.Post
-judge-sized-returns-2 t c = search needs
-
-judge-sized-judge-many-requires : (t : ℕ) → judge-sized-lts.Need-judge-many-requires (judge-image-reads.Asked, judge-image-reads.Learnt, judge-sized-below t, judge-sized.Post, judge-many-reads.Asked, judge-many-reads.Learnt) (judge-sized-at t) judge-sized.Post
-judge-sized-judge-many-requires t c κs = search needs
-
-judge-sized-returns-3 : (t : ℕ) → judge-sized-lts.Need-returns-3 (judge-image-reads.Asked, judge-image-reads.Learnt, judge-sized-below t, judge-sized.Post, judge-many-reads.Asked, judge-many-reads.Learnt) (judge-sized-at t) judge-sized.Post
-judge-sized-returns-3 t c = search needs
+abbrev below : ℕ → In 2 kinds.ps
+below t = and 2 kinds.ps (falls 2 kinds.ps _<_ μ t) sized.Pre
 
 pub +judge-sized-spec : {M : Type 1} → statement M
-+judge-sized-spec = close μ-judge-sized λ t. judge-sized-lts.spec (judge-image-reads.Asked, judge-image-reads.Learnt, judge-sized-below t, judge-sized.Post, judge-many-reads.Asked, judge-many-reads.Learnt)
-    (judge-sized-at t)
-    judge-sized.Post
-    (judge-sized-judge-image-requires t)
-    (judge-sized-same-length t)
-    (judge-sized-returns t)
-    (judge-sized-slice-aggregate-judge-sized t)
-    (judge-sized-judge-sized-requires t)
-    (judge-sized-returns-2 t)
-    (judge-sized-judge-many-requires t)
-    (judge-sized-returns-3 t)
++judge-sized-spec = close μ λ t. lts.spec (one.Asked, one.Learnt, below t, sized.Post, many.Asked, many.Learnt)
+    (at t)
+    sized.Post
+    (λ c κs. search needs)
+    (λ c. search needs)
+    (λ c. search needs)
+    (λ c. search needs)
+    (λ c κs. search needs)
+    (λ c. search needs)
+    (λ c κs. search needs)
+    (λ c. search needs)

@@ -1,21 +1,16 @@
--- `vpd::vpd_reader_key` meets its contract: only the key of a 01h is tested.
+-- `vpd::vpd_reader_key` meets its contract: the reader's rule on a key is the writer's.
 -- Assumes nothing.
 use borrow.Author.Needs.{needs}
-use borrow.Author.Tests.{ne-eqb}
-use Rattle.layout.specs.Vpd.{vpdReaderKey}
+use Rattle.layout.specs.Vpd.{vpdReaderKey, vpdWriterKey}
 use Rattle.vpd.proofs.vpd_reader_key.Statement.{statement}
 use Rattle.vpd.proofs.vpd_reader_key.Tie as tie
 
-key-rule-requires : tie.Need-key-rule-requires
-key-rule-requires c κs = search needs
+vpd-writer-key-requires : tie.Need-vpd-writer-key-requires
+vpd-writer-key-requires c κs = search needs
 
 returns : tie.Need-returns
-unfolding vpdReaderKey
-returns c = rw (c .before .if1 .taken) (c .key-rule .ensures)
-
-returns-2 : tie.Need-returns-2
-unfolding vpdReaderKey
-returns-2 c = rw (ne-eqb _ _ (c .if1 .left))
+unfolding vpdReaderKey vpdWriterKey
+returns c = c .vpd-writer-key .ensures
 
 pub vpd-reader-key-spec : {M : Type 1} → statement M
-vpd-reader-key-spec = tie.close (tie.spec key-rule-requires returns returns-2)
+vpd-reader-key-spec = tie.close (tie.spec vpd-writer-key-requires returns)
