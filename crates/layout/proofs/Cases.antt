@@ -161,6 +161,10 @@ writing f e c v = madeNumber (writeImage f e (field c 0 (length v) ∷ []) v [] 
 abbrev pub writingKey : ℕ → List ℕ → ℕ
 writingKey e key = madeNumber (writeImage 2 e (keyedField 0x01 0 (length key) 0 0 ∷ []) key [] .answer)
 
+-- of a write of one VPD field of type 01h, with the key "A" and a value of n bytes, into so many bytes
+abbrev pub writingLong : ℕ → ℕ → ℕ
+writingLong n room = madeNumber (writeImage 2 1 (keyedField 0x01 0 1 0 n ∷ []) (replicate n 0x41) (replicate room 0) .answer)
+
 -- of a write of one field with this code, and a value that is not inside the lent values: 13 where the edition names the code, and 14 where it does not
 abbrev pub naming : ℕ → ℕ → ℕ → ℕ
 naming f e c = madeNumber (writeImage f e (field c 1 0 ∷ []) [] [] .answer)
@@ -194,6 +198,8 @@ pub data Case : Type 0 where
   checks : (format edition : ℕ) (image : List ℕ) (answer : Checked) → Case
   -- the check of an image, alike in both editions
   alike : (format : ℕ) (image : List ℕ) (answer : Checked) → Case
+  -- the number that a call gives, 0 where nothing is refused
+  numbers : (n : ℕ) (answer : ℕ) → Case
   -- the numbers below a bound for which a call gives this number
   sweeps : (bound : ℕ) (question : ℕ → ℕ) (number : ℕ) (answer : List ℕ) → Case
   -- the list, with room for just these records
@@ -248,13 +254,21 @@ pub data Answer : Type 0 where
 
 -- what the definitions answer
 unfoldable pub given : Case → Answer
-unfolding check16Of check8Of checkOf byteIn singleBit all oneOf sameBytes part highFirst next fboss fbossOpened fbossHead dateRule fbossRule fbossReading vpd groups vpdHead shortest vpdReaderKey vpdWriterKey vpdRule vpdTwice tiny tinyOpened tinyHead tinyLength tinyRule tinyReading chosen sinceIn names kind content walks walk sealed seenBefore readerRule fault judge complete readAs readImage entryOf entriesOf entriesIn checkImage listEntries nth entryAt valueAt stepFrom stringIn poolString stringAt toldReading fields fieldsIn writerRule fieldFault judgeFields entryBytes entriesBytes imageOf put writeAs writeImage revalued editedBytes editRule mayEdit editEntry
+unfolding check16Of check8Of checkOf byteIn singleBit all oneOf sameBytes part highFirst next
+    fboss fbossOpened fbossHead dateRule fbossRule fbossReading
+    vpd groups vpdHead shortest vpdReaderKey vpdWriterKey vpdRule vpdTwice
+    tiny tinyOpened tinyHead tinyLength tinyRule tinyReading
+    chosen sinceIn names kind content walks walk sealed seenBefore readerRule fault judge complete readAs readImage
+    entryOf entriesOf entriesIn checkImage listEntries nth entryAt valueAt stepFrom stringIn poolString stringAt toldReading
+    fields fieldsIn writerRule fieldFault judgeFields entryBytes entriesBytes imageOf put writeAs writeImage
+    revalued editedBytes editRule mayEdit editEntry
 given (check16 s answer) = number (check16Of s)
 given (check8 s answer) = number (check8Of s)
 given (lengths s answer) = length-read (groups 4 0 0 s)
 given (shortests n answer) = bytes (shortest n)
 given (checks f e image answer) = checked (checkImage f e image)
 given (alike f image answer) = both (checkImage f 1 image) (checkImage f 2 image)
+given (numbers n answer) = number n
 given (sweeps bound question n answer) = bytes (those bound 0 question n)
 given (lists f e image rs) = listed (listEntries f e image (replicate (length rs) blank))
 given (fills f e image lent answer rs) = listed (listEntries f e image lent)
@@ -282,6 +296,7 @@ wanted (lengths s answer) = length-read answer
 wanted (shortests n answer) = bytes answer
 wanted (checks f e image answer) = checked answer
 wanted (alike f image answer) = both answer answer
+wanted (numbers n answer) = number answer
 wanted (sweeps bound question n answer) = bytes answer
 wanted (lists f e image rs) = listed (record { answer = Accepted (length rs); records = rs })
 wanted (fills f e image lent answer rs) = listed (record { answer = answer; records = rs })

@@ -8,8 +8,8 @@ use Rattle.layout.specs.declared.Field.{Field}
 use Rattle.layout.specs.declared.Made.the-variants.{Wrote}
 use Rattle.layout.specs.Bytes.{refusal}
 use Rattle.layout.specs.Walk.{Content}
-use Rattle.layout.proofs.Cases.{text, hex, fbossOf, five, field, keyedField, unwritten}
-use Rattle.layout.proofs.Cases.{Case, lies, writes, unwrites, rounds, given, wanted}
+use Rattle.layout.proofs.Cases.{text, hex, fbossOf, five, field, keyedField, unwritten, writingLong}
+use Rattle.layout.proofs.Cases.{Case, numbers, lies, writes, unwrites, rounds, given, wanted}
 
 -- "A", "B", 5, 0 and 1: the values of the five required FBOSS fields
 abbrev pub lent : List ℕ
@@ -64,6 +64,7 @@ cases =
     ∷ unwrites 4 9 (field 99 9 9 ∷ []) [] 3 (refusal 16 0)
     ∷ unwrites 1 0 (field 99 9 9 ∷ []) [] 3 (refusal 1 0)
     ∷ unwrites 2 3 (field 99 9 9 ∷ []) [] 3 (refusal 1 0)
+    ∷ unwrites 1 1 (field 99 9 9 ∷ []) [] 65536 (refusal 14 0)
     ∷ unwrites 1 1 (field 99 9 9 ∷ []) [] 65537 (refusal 2 0)
     -- ---- a refused write gives the number of the field: 14, 13, 9, 7, 8
     ∷ unwrites 1 1 (field 1 0 1 ∷ field 8 2 1 ∷ field 17 0 1 ∷ []) lent 4 (refusal 14 2)
@@ -111,6 +112,8 @@ cases =
     ∷ writes 2 2 (keyedField 0x01 0 1 0 128 ∷ []) (replicate 128 0x41) (replicate 134 7) (Wrote 134) (hex "01 01 41 81 00" ++ replicate 128 0x41 ++ hex "00")
     ∷ writes 2 1 (keyedField 0x01 0 128 0 0 ∷ []) (replicate 128 0x41) (replicate 133 7) (Wrote 133) (hex "01 81 00" ++ replicate 128 0x41 ++ hex "00 00")
     ∷ writes 2 1 (keyedField 0x01 0 1 0 127 ∷ []) (replicate 127 0x41) (replicate 132 7) (Wrote 132) (hex "01 01 41 7F" ++ replicate 127 0x41 ++ hex "00")
+    -- the longest image, in the longest output: 65,536 bytes
+    ∷ numbers (writingLong 65529 65536) 0
     -- ---- FBOSS text of 255 bytes is written, of 256 is 7
     ∷ unwrites 1 1 (field 1 0 255 ∷ []) (replicate 255 0x41) 0 (refusal 11 0)
     ∷ unwrites 1 1 (field 1 0 256 ∷ []) (replicate 256 0x41) 0 (refusal 7 0)
