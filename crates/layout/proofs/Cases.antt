@@ -7,13 +7,12 @@ use Prim.Native.String.{String}
 use Prim.Native.String as S
 use mathlib.Core.Path.{_≡_, refl}
 use mathlib.Core.List.{List, [], _∷_, _++_, map}
-use mathlib.Core.Bool.{Bool, true, false}
 use lib.ListN.{length, replicate}
 use lib.Dec.{leb, eqb}
 use Rattle.crc.specs.Crc.{check16Of, check8Of, checkOf, byteIn, singleBit}
-use Rattle.layout.specs.declared.Part.{Part}
 use Rattle.layout.specs.declared.Length.{Length}
 use Rattle.layout.specs.declared.Length.the-variants.{Reads}
+use Rattle.layout.specs.declared.Identity.{Identity}
 use Rattle.layout.specs.declared.Reading.{Reading}
 use Rattle.layout.specs.declared.Reading.the-variants.{Plain}
 use Rattle.layout.specs.declared.Entry.{Entry}
@@ -27,7 +26,7 @@ use Rattle.layout.specs.declared.Located.{Located}
 use Rattle.layout.specs.declared.Located.the-variants.{Nowhere}
 use Rattle.layout.specs.declared.Made.{Made}
 use Rattle.layout.specs.declared.Made.the-variants.{Wrote, Unwritten}
-use Rattle.layout.specs.Bytes.{if, all, oneOf, sameBytes, part, highFirst, place, partAt, refusal}
+use Rattle.layout.specs.Bytes.{if, all, oneOf, sameBytes, part, highFirst, place, stringNumber, partAt, refusal}
 use Rattle.layout.specs.Shape.{next}
 use Rattle.layout.specs.Fboss.{fboss, fbossOpened, fbossHead, dateRule, fbossRule, fbossReading}
 use Rattle.layout.specs.Vpd.{vpd, groups, vpdHead, shortest, vpdReaderKey, vpdWriterKey, vpdRule, vpdTwice}
@@ -89,6 +88,10 @@ five = hex "01 01 41 08 01 05 09 01 00 0A 01 01 0B 01 42"
 abbrev pub boardWith : ℕ → List ℕ → ℕ → List ℕ
 boardWith c v check = fbossOf (five ++ (c ∷ length v ∷ v)) check
 
+-- the five required entries and an address block, which edition 1 does not name
+abbrev pub withBlock : List ℕ
+withBlock = boardWith 17 (hex "02 00 00 00 00 01 00 08") 0x2E97
+
 -- a VPD image of one 01h with this key and no value
 abbrev pub keyOnly : List ℕ → List ℕ
 keyOnly key = 0x01 ∷ length key ∷ (key ++ hex "00 00")
@@ -106,6 +109,10 @@ abbrev pub noTags : List ℕ
 noTags = hex "56 02 04 6F"
 
 -- ---- records, fields and answers, in short
+
+-- an identity: serial, part, major, minor and two free bytes
+abbrev pub named : ℕ → ℕ → ℕ → ℕ → ℕ → ℕ → Identity
+named s p major minor a b = record { serial = stringNumber s; part = stringNumber p; major = major; minor = minor; free0 = a; free1 = b }
 
 -- the record of an entry in a format without keys: code, kind and place, the value's place and length, and the reading
 abbrev pub bare : ℕ → ℕ → ℕ → ℕ → ℕ → Reading → Entry

@@ -2,11 +2,10 @@
 -- Assumes nothing.
 use Prim.Native.Nat.{ℕ}
 use mathlib.Core.Path.{_≡_, refl}
-use mathlib.Core.List.{List, [], _∷_, _++_, map}
+use mathlib.Core.List.{List, [], _∷_, map}
 use lib.ListN.{replicate}
 use Rattle.layout.specs.declared.Part.{Part}
 use Rattle.layout.specs.declared.Reading.the-variants.{Plain, Text, Number, Addresses, Numbered, Tests, Identified, Batched}
-use Rattle.layout.specs.declared.Identity.{Identity}
 use Rattle.layout.specs.declared.Entry.{Entry}
 use Rattle.layout.specs.declared.Checked.the-variants.{Accepted}
 use Rattle.layout.specs.declared.Lookup.the-variants.{Found}
@@ -15,8 +14,8 @@ use Rattle.layout.specs.declared.Made.the-variants.{Wrote}
 use Rattle.layout.specs.Bytes.{partAt, stringNumber, refusal}
 use Rattle.layout.specs.Calls.{Told, toldRefusal, told, toldChecked, toldLookup, toldLocated}
 use Rattle.layout.specs.Write.{toldMade}
-use Rattle.layout.proofs.Cases.{text, hex, run, sku, threeBytes, noTags, bare, keyed, blank, refuses, misses, nowhere, unwritten, checking}
-use Rattle.layout.proofs.Cases.{Case, checks, sweeps, lists, fills, entries, finds, values, strings, steps, says, tells, settles, shows, given, wanted}
+use Rattle.layout.proofs.Cases.{text, hex, run, sku, threeBytes, noTags, named, bare, keyed, refuses, misses, nowhere, unwritten, checking}
+use Rattle.layout.proofs.Cases.{Case, checks, sweeps, fills, entries, finds, values, steps, says, tells, settles, shows, given, wanted}
 
 -- the record of the SKU image, as every edition lists it
 abbrev pub skuEntry : Entry
@@ -28,10 +27,6 @@ old = bare 9 8 7 6 5 (Number 4)
 
 abbrev pub older : Entry
 older = keyed 1 2 3 4 5 6 7
-
--- an identity: serial, part, major, minor and two free bytes
-abbrev pub named : ℕ → ℕ → ℕ → ℕ → ℕ → ℕ → Identity
-named s p major minor a b = record { serial = stringNumber s; part = stringNumber p; major = major; minor = minor; free0 = a; free1 = b }
 
 -- number, place, count, part and entries of an answer
 abbrev pub saying : ℕ → ℕ → ℕ → Part → List Entry → Told

@@ -7,16 +7,12 @@ use lib.ListN.{replicate}
 use Rattle.layout.specs.declared.Checked.the-variants.{Accepted}
 use Rattle.layout.specs.declared.Made.the-variants.{Wrote}
 use Rattle.layout.specs.Bytes.{refusal}
-use Rattle.layout.proofs.Cases.{text, hex, run, fbossOf, five, boardWith, sku, threeBytes, noTags, unwritten, editing}
+use Rattle.layout.proofs.Cases.{text, hex, run, fbossOf, five, boardWith, withBlock, sku, threeBytes, noTags, unwritten, editing}
 use Rattle.layout.proofs.Cases.{Case, checks, alike, sweeps, edits, unedits, given, wanted}
 
 -- a 01h, and an FEh whose key has its length in two bytes; an end by FFh, and a byte after it
 abbrev pub skuAndFeh : List ℕ
 skuAndFeh = hex "01 03 53 4B 55 02 41 37 FE 80 01 41 04 01 02 03 04 FF 09"
-
--- the five required entries and an address block, which edition 1 does not name
-abbrev pub withBlock : List ℕ
-withBlock = boardWith 17 (hex "02 00 00 00 00 01 00 08") 0x2E97
 
 -- an identity with batch, and a pool
 abbrev pub batchAndPool : List ℕ

@@ -10,7 +10,7 @@ use Rattle.layout.specs.declared.Checked.the-variants.{Accepted}
 use Rattle.layout.specs.declared.Lookup.the-variants.{Found}
 use Rattle.layout.specs.declared.Located.the-variants.{At}
 use Rattle.layout.specs.Bytes.{partAt}
-use Rattle.layout.proofs.Cases.{text, hex, run, fbossOf, five, boardWith, bare, refuses, misses, nowhere, checking, writing, naming}
+use Rattle.layout.proofs.Cases.{text, hex, run, fbossOf, five, boardWith, withBlock, bare, refuses, misses, nowhere, checking, writing, naming}
 use Rattle.layout.proofs.Cases.{Case, check16, check8, checks, alike, sweeps, lists, finds, values, steps, given, wanted}
 
 -- an image with every code that edition 2 names, 1 to 20 in order: 16 entries that both editions name, and four address blocks
@@ -61,10 +61,6 @@ fourBlocks =
 abbrev pub lone : ℕ → List ℕ → ℕ → List ℕ
 lone c v check = fbossOf (c ∷ length v ∷ v) check
 
--- the five required entries and an address block, which edition 1 does not name
-abbrev pub withBlock : List ℕ
-withBlock = boardWith 17 (hex "02 00 00 00 00 01 00 08") 0x2E97
-
 -- the header and the bytes of entries, with no end
 abbrev pub begun : List ℕ → List ℕ
 begun s = hex "FB FB 05 FF" ++ s
@@ -73,10 +69,11 @@ begun s = hex "FB FB 05 FF" ++ s
 abbrev pub digits : ℕ → List ℕ
 digits n = (n / 10 + 0x30) ∷ (n % 10 + 0x30) ∷ []
 
--- a date of 2023, or of month 12, or of day 31
+-- day n of December 2023
 abbrev pub day : ℕ → List ℕ
 day n = text "202312" ++ digits n
 
+-- day 15 of month n of 2023
 abbrev pub month : ℕ → List ℕ
 month n = text "2023" ++ digits n ++ text "15"
 
@@ -135,7 +132,7 @@ cases =
     ∷ checks 1 1 (fbossOf (hex "01 01 41 08 01 05 0A 01 01 0B 01 42") 0x87B2) (refuses 11 0)
     ∷ checks 1 2 (fbossOf (hex "01 01 41 08 01 05 09 01 00 0B 01 42") 0x3FE6) (refuses 11 0)
     ∷ checks 1 1 (fbossOf (hex "01 01 41 08 01 05 09 01 00 0A 01 01") 0x7071) (refuses 11 0)
-    -- the five in another order; with every other code but one of the five; with the lower, or the next higher code in place of one
+    -- the five in another order; a neighbour in the place of one; 8 and 7 come before 11
     ∷ checks 1 2 (fbossOf (hex "0B 01 42 0A 01 01 09 01 00 08 01 05 01 01 41") 0xF0D3) (Accepted 5)
     ∷ checks 1 1 (fbossOf (hex "02 01 41 08 01 05 09 01 00 0A 01 01 0B 01 42") 0xAB03) (refuses 11 0)
     ∷ checks 1 2 (fbossOf (hex "01 01 41 07 01 41 09 01 00 0A 01 01 0B 01 42") 0x84EA) (refuses 11 0)

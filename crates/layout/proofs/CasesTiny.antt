@@ -4,15 +4,13 @@ use Prim.Native.Nat.{ℕ, _*_, _/_, _%_}
 use mathlib.Core.Path.{_≡_, refl}
 use mathlib.Core.List.{List, [], _∷_, _++_, map}
 use lib.ListN.{replicate}
-use Rattle.layout.specs.declared.Reading.{Reading}
 use Rattle.layout.specs.declared.Reading.the-variants.{Plain, Addresses, Numbered, Tests, Identified, Batched}
-use Rattle.layout.specs.declared.Identity.{Identity}
 use Rattle.layout.specs.declared.Entry.{Entry}
 use Rattle.layout.specs.declared.Checked.the-variants.{Accepted}
 use Rattle.layout.specs.declared.Lookup.the-variants.{Found}
 use Rattle.layout.specs.declared.Located.the-variants.{At}
 use Rattle.layout.specs.Bytes.{partAt, stringNumber}
-use Rattle.layout.proofs.Cases.{text, hex, run, bare, noTags, refuses, misses, nowhere, checking, writing, naming}
+use Rattle.layout.proofs.Cases.{hex, run, named, bare, noTags, refuses, misses, nowhere, checking, writing, naming}
 use Rattle.layout.proofs.Cases.{Case, checks, alike, sweeps, lists, entries, finds, values, strings, steps, given, wanted}
 
 -- every named tag, one that no edition names, and a pool of two strings and an unfinished tail
@@ -20,10 +18,6 @@ abbrev pub tags : List ℕ
 tags =
     hex "56 02 38 10 02 11 3B 60 02 00 00 00 01 FF 61 00 01 02 03 04 05 62 01 00 80 63 06 07"
     ++ hex "80 00 01 02 03 04 05 34 12 81 01 01 63 00 00 00 0F 27 25 07 08 01 04 41 C2 C3 44 E7"
-
--- an identity: serial, part, major, minor and two free bytes
-abbrev pub named : ℕ → ℕ → ℕ → ℕ → ℕ → ℕ → Identity
-named s p major minor a b = record { serial = stringNumber s; part = stringNumber p; major = major; minor = minor; free0 = a; free1 = b }
 
 -- its first five records, alike in both editions
 abbrev pub firstFive : List Entry

@@ -100,6 +100,7 @@ cases =
     ∷ alike 2 (hex "01 01 41 FF FF FF 7F 00") (refuses 5 0)
     -- lengths of four bytes, of a key and of a value
     ∷ finds 2 1 (hex "01 80 80 80 01 41 80 80 80 01 42 00") 0 (Found (keyed 0x01 513 0 5 1 10 1))
+    ∷ finds 2 2 (hex "FE 80 80 80 01 41 80 80 80 04 01 02 03 04 00") 0 (Found (keyed 0xFE 766 0 5 1 10 4))
     ∷ finds 2 2 longValue 0 (Found (keyed 0x01 513 0 2 1 5 128))
     ∷ finds 2 1 longKey 0 (Found (keyed 0x01 513 0 4 130 135 1))
     -- a frame before a rule
