@@ -1,0 +1,195 @@
+-- Worked cases of VPD images, as one statement over a list (01, "VPD 2.0 (002)").
+-- Assumes nothing.
+use Prim.Native.Nat.{ℕ}
+use mathlib.Core.Path.{_≡_, refl}
+use mathlib.Core.List.{List, [], _∷_, _++_, map}
+use lib.ListN.{replicate}
+use Rattle.layout.specs.declared.Length.the-variants.{Reads, Fails}
+use Rattle.layout.specs.declared.Checked.the-variants.{Accepted}
+use Rattle.layout.specs.declared.Lookup.the-variants.{Found}
+use Rattle.layout.specs.declared.Located.the-variants.{At}
+use Rattle.layout.specs.Bytes.{partAt}
+use Rattle.layout.proofs.Cases.{text, hex, run, keyOnly, sku, threeBytes, keyed, refuses, misses, nowhere, checking, writing, writingKey, naming}
+use Rattle.layout.proofs.Cases.{Case, lengths, shortests, checks, alike, sweeps, lists, entries, finds, values, steps, given, wanted}
+
+-- a 01h, an FEh whose key has its length in two bytes, and a 01h; an end by FFh, and a byte after it
+abbrev pub threeEntries : List ℕ
+threeEntries = hex "01 03 53 4B 55 02 41 37 FE 80 01 41 04 01 02 03 04 01 01 42 80 00 FF 09"
+
+-- a 01h with a value of 128 bytes, whose length has two bytes
+abbrev pub longValue : List ℕ
+longValue = hex "01 01 41 81 00" ++ replicate 128 0x42 ++ hex "00"
+
+-- a 01h with a key of 130 bytes, whose length has three bytes where two would do
+abbrev pub longKey : List ℕ
+longKey = hex "01 80 81 02" ++ replicate 130 0x43 ++ hex "01 44 00"
+
+-- an FEh without a key, and a value of n bytes
+abbrev pub feh : ℕ → List ℕ
+feh n = 0xFE ∷ 0 ∷ n ∷ (replicate n 0 ++ hex "00")
+
+-- the bytes of a key
+abbrev pub keyBytes : List ℕ
+keyBytes = run 0x30 0x39 ++ run 0x41 0x5A ++ (0x5F ∷ run 0x61 0x7A)
+
+abbrev pub cases : List Case
+cases =
+    -- ---- lengths: one to four bytes, each group in its place; leading zero groups
+    lengths (hex "00") (Reads 0 1)
+    ∷ lengths (hex "7F") (Reads 127 1)
+    ∷ lengths (hex "81 00") (Reads 128 2)
+    ∷ lengths (hex "FF 7F") (Reads 16383 2)
+    ∷ lengths (hex "81 80 00") (Reads 16384 3)
+    ∷ lengths (hex "FF FF 7F") (Reads 2097151 3)
+    ∷ lengths (hex "81 80 80 00") (Reads 2097152 4)
+    ∷ lengths (hex "81 82 83 04") (Reads 2130308 4)
+    ∷ lengths (hex "FF FF FF 7F") (Reads 268435455 4)
+    ∷ lengths (hex "80 80 80 00") (Reads 0 4)
+    ∷ lengths (hex "80 80 01 99") (Reads 1 3)
+    -- 6: a fourth with its top bit on, even as the last byte. 5: no byte, or none after a top bit
+    ∷ lengths (hex "80 80 80 80") (Fails 6)
+    ∷ lengths (hex "80 80 80 80 00") (Fails 6)
+    ∷ lengths (hex "FF FF FF FF 7F") (Fails 6)
+    ∷ lengths [] (Fails 5)
+    ∷ lengths (hex "80") (Fails 5)
+    ∷ lengths (hex "80 80") (Fails 5)
+    ∷ lengths (hex "80 80 80") (Fails 5)
+    -- the shortest bytes, on both sides of each number of bytes
+    ∷ shortests 0 (hex "00")
+    ∷ shortests 127 (hex "7F")
+    ∷ shortests 128 (hex "81 00")
+    ∷ shortests 300 (hex "82 2C")
+    ∷ shortests 16383 (hex "FF 7F")
+    ∷ shortests 16384 (hex "81 80 00")
+    ∷ shortests 65535 (hex "83 FF 7F")
+    ∷ shortests 65793 (hex "84 82 01")
+    ∷ shortests 2097151 (hex "FF FF 7F")
+    ∷ shortests 2097152 (hex "81 80 80 00")
+    ∷ shortests 2130308 (hex "81 82 83 04")
+    ∷ shortests 268435455 (hex "FF FF FF 7F")
+    -- ---- what ends an image; nothing after it is looked at
+    ∷ alike 2 [] (refuses 5 0)
+    ∷ alike 2 (hex "00") (Accepted 0)
+    ∷ alike 2 (hex "FF") (Accepted 0)
+    ∷ alike 2 (hex "00 02") (Accepted 0)
+    ∷ alike 2 (hex "FF 01 02") (Accepted 0)
+    ∷ alike 2 (sku ++ hex "02 02") (Accepted 1)
+    -- the types: 00h and FFh end, 01h and FEh open an entry, any other can't be skipped
+    ∷ sweeps 256 (λ b. checking 2 1 (b ∷ [])) 0 (0x00 ∷ 0xFF ∷ [])
+    ∷ sweeps 256 (λ b. checking 2 2 (b ∷ [])) 5 (0x01 ∷ 0xFE ∷ [])
+    ∷ sweeps 256 (λ b. checking 2 2 (b ∷ hex "01 41 00 00")) 6 (run 0x02 0xFD)
+    ∷ alike 2 (hex "02") (refuses 6 0)
+    ∷ alike 2 (hex "82 01 41 00 00") (refuses 6 0)
+    ∷ alike 2 (hex "01 01 41 00 02") (refuses 6 4)
+    ∷ alike 2 (hex "01 01 41 00 FD 01 41 00 00") (refuses 6 4)
+    -- ---- frames. 5: no end; a length, a key or a value past the room
+    ∷ alike 2 (hex "01") (refuses 5 0)
+    ∷ alike 2 (hex "01 80 80 80") (refuses 5 0)
+    ∷ alike 2 (hex "01 02 41") (refuses 5 0)
+    ∷ alike 2 (hex "01 01 41") (refuses 5 0)
+    ∷ alike 2 (hex "01 01 41 80") (refuses 5 0)
+    ∷ alike 2 (hex "01 01 41 80 80 80") (refuses 5 0)
+    ∷ alike 2 (hex "01 01 41 02 42") (refuses 5 0)
+    ∷ alike 2 (hex "01 01 41 01 42") (refuses 5 5)
+    ∷ alike 2 (hex "01 01 41 01 42 01 02 41") (refuses 5 5)
+    ∷ alike 2 (hex "FE 01 41 00") (refuses 5 4)
+    -- 6: a fourth length byte with its top bit on, of a key and of a value, before a value past the room
+    ∷ alike 2 (hex "FE 80 80 80 80") (refuses 6 0)
+    ∷ alike 2 (hex "01 01 41 80 80 80 80") (refuses 6 0)
+    ∷ alike 2 (hex "01 01 41 00 01 01 42 FF FF FF FF 00") (refuses 6 4)
+    ∷ alike 2 (hex "01 01 41 FF FF FF 7F 00") (refuses 5 0)
+    -- lengths of four bytes, of a key and of a value
+    ∷ finds 2 1 (hex "01 80 80 80 01 41 80 80 80 01 42 00") 0 (Found (keyed 0x01 513 0 5 1 10 1))
+    ∷ finds 2 2 (hex "FE 80 80 80 01 41 80 80 80 04 01 02 03 04 00") 0 (Found (keyed 0xFE 766 0 5 1 10 4))
+    ∷ finds 2 2 longValue 0 (Found (keyed 0x01 513 0 2 1 5 128))
+    ∷ finds 2 1 longKey 0 (Found (keyed 0x01 513 0 4 130 135 1))
+    -- a frame before a rule
+    ∷ alike 2 (hex "01 01 2E 00 02 00") (refuses 6 4)
+    ∷ alike 2 (hex "01 00 00 01") (refuses 5 3)
+    -- ---- 7: keys of a 01h, at least one byte, from the alphabet; on both sides of each of its ends
+    ∷ alike 2 (keyOnly []) (refuses 7 0)
+    ∷ alike 2 (keyOnly (text "aZ9_")) (Accepted 1)
+    ∷ alike 2 (keyOnly (text "/")) (refuses 7 0)
+    ∷ alike 2 (keyOnly (text "0")) (Accepted 1)
+    ∷ alike 2 (keyOnly (text "9")) (Accepted 1)
+    ∷ alike 2 (keyOnly (text ":")) (refuses 7 0)
+    ∷ alike 2 (keyOnly (text "@")) (refuses 7 0)
+    ∷ alike 2 (keyOnly (text "A")) (Accepted 1)
+    ∷ alike 2 (keyOnly (text "Z")) (Accepted 1)
+    ∷ alike 2 (keyOnly (text "[")) (refuses 7 0)
+    ∷ alike 2 (keyOnly (text "^")) (refuses 7 0)
+    ∷ alike 2 (keyOnly (text "_")) (Accepted 1)
+    ∷ alike 2 (keyOnly (text "`")) (refuses 7 0)
+    ∷ alike 2 (keyOnly (text "a")) (Accepted 1)
+    ∷ alike 2 (keyOnly (text "z")) (Accepted 1)
+    ∷ alike 2 (keyOnly (text "{")) (refuses 7 0)
+    ∷ alike 2 (keyOnly (text "SK.")) (refuses 7 0)
+    ∷ sweeps 256 (λ b. checking 2 1 (keyOnly (b ∷ []))) 0 keyBytes
+    ∷ sweeps 256 (λ b. checking 2 2 (keyOnly (0x41 ∷ b ∷ []))) 0 keyBytes
+    ∷ sweeps 256 (λ b. checking 2 2 (keyOnly (b ∷ []))) 7 (run 0 0x2F ++ run 0x3A 0x40 ++ run 0x5B 0x5E ++ (0x60 ∷ run 0x7B 0xFF))
+    -- the same of a key that is written
+    ∷ sweeps 256 (λ b. writingKey 1 (b ∷ [])) 12 keyBytes
+    ∷ sweeps 256 (λ b. writingKey 2 (0x41 ∷ b ∷ [])) 12 keyBytes
+    ∷ sweeps 256 (λ b. writingKey 2 (b ∷ [])) 7 (run 0 0x2F ++ run 0x3A 0x40 ++ run 0x5B 0x5E ++ (0x60 ∷ run 0x7B 0xFF))
+    -- no rule on the value of a 01h, nor on the key of an FEh
+    ∷ sweeps 10 (λ n. checking 2 2 (0x01 ∷ 1 ∷ 0x41 ∷ n ∷ (replicate n 0xFF ++ hex "00"))) 0 (run 0 9)
+    ∷ sweeps 256 (λ b. checking 2 2 (0xFE ∷ 1 ∷ b ∷ hex "04 00 00 00 00 00")) 0 (run 0 255)
+    -- 7: an FEh has a value of four bytes; edition 1 does not name it
+    ∷ checks 2 2 (hex "FE 01 41 04 01 02 03 04 00") (Accepted 1)
+    ∷ sweeps 10 (λ n. checking 2 2 (feh n)) 0 (4 ∷ [])
+    ∷ sweeps 10 (λ n. checking 2 2 (feh n)) 7 (run 0 3 ++ run 5 9)
+    ∷ sweeps 10 (λ n. checking 2 1 (feh n)) 0 (run 0 9)
+    ∷ sweeps 10 (λ n. writing 2 2 0xFE (replicate n 0)) 12 (4 ∷ [])
+    ∷ checks 2 2 (hex "01 01 41 00 FE 00 03 01 02 03 00") (refuses 7 4)
+    -- ---- 8: at the second of the two, whatever the form of its lengths and its value; keys compare as bytes
+    ∷ alike 2 (hex "01 01 41 00 01 80 01 41 01 42 00") (refuses 8 4)
+    ∷ alike 2 (hex "01 01 41 00 01 01 42 00 01 01 41 00 00") (refuses 8 8)
+    ∷ alike 2 (hex "01 01 41 00 01 01 42 00 01 01 42 00 00") (refuses 8 8)
+    ∷ alike 2 (hex "01 01 41 00 01 01 61 00 00") (Accepted 2)
+    ∷ alike 2 (hex "01 01 41 00 01 02 41 42 00 00") (Accepted 2)
+    ∷ alike 2 (hex "01 02 41 42 00 01 01 41 00 00") (Accepted 2)
+    ∷ alike 2 (hex "01 02 41 42 00 01 02 41 43 00 00") (Accepted 2)
+    ∷ alike 2 (hex "01 02 41 42 00 01 02 43 42 00 00") (Accepted 2)
+    ∷ checks 2 1 (hex "FE 00 04 00 00 00 00 FE 01 41 04 00 00 00 00 00") (Accepted 2)
+    ∷ checks 2 2 (hex "FE 00 04 00 00 00 00 FE 01 41 04 00 00 00 00 00") (refuses 8 7)
+    ∷ alike 2 (hex "FE 01 41 04 00 00 00 00 01 01 41 00 00") (Accepted 2)
+    ∷ alike 2 (hex "01 01 41 00 FE 01 41 04 00 00 00 00 00") (Accepted 2)
+    -- 7 before 8
+    ∷ checks 2 2 (hex "FE 00 04 00 00 00 00 FE 00 03 00 00 00 00") (refuses 7 7)
+    ∷ alike 2 (hex "01 01 41 00 01 01 41 00 01 00 00 00") (refuses 8 4)
+    -- ---- the types that each edition names: 13, and 14 for any other
+    ∷ sweeps 300 (λ c. naming 2 1 c) 13 (0x01 ∷ [])
+    ∷ sweeps 300 (λ c. naming 2 2 c) 13 (0x01 ∷ 0xFE ∷ [])
+    ∷ sweeps 300 (λ c. naming 2 2 c) 14 (0x00 ∷ run 0x02 0xFD ++ run 0xFF 299)
+    -- ---- records, in both editions. An FEh has its key at its own place, an empty one too
+    ∷ lists 2 1 threeEntries (keyed 0x01 513 0 2 3 6 2 ∷ keyed 0xFE 0 8 11 1 13 4 ∷ keyed 0x01 513 17 19 1 22 0 ∷ [])
+    ∷ lists 2 2 threeEntries (keyed 0x01 513 0 2 3 6 2 ∷ keyed 0xFE 766 8 11 1 13 4 ∷ keyed 0x01 513 17 19 1 22 0 ∷ [])
+    ∷ entries 2 1 threeEntries (keyed 0x01 513 0 2 3 6 2 ∷ keyed 0xFE 0 8 11 1 13 4 ∷ keyed 0x01 513 17 19 1 22 0 ∷ [])
+    ∷ entries 2 2 threeEntries (keyed 0x01 513 0 2 3 6 2 ∷ keyed 0xFE 766 8 11 1 13 4 ∷ keyed 0x01 513 17 19 1 22 0 ∷ [])
+    ∷ entries 2 2 threeBytes []
+    ∷ finds 2 1 (feh 4) 0 (Found (keyed 0xFE 0 0 2 0 3 4))
+    ∷ finds 2 2 (feh 4) 0 (Found (keyed 0xFE 766 0 2 0 3 4))
+    -- entry, value and step: the first, in the middle, the last and past it
+    ∷ finds 2 1 threeEntries 0 (Found (keyed 0x01 513 0 2 3 6 2))
+    ∷ finds 2 1 threeEntries 1 (Found (keyed 0xFE 0 8 11 1 13 4))
+    ∷ finds 2 2 threeEntries 1 (Found (keyed 0xFE 766 8 11 1 13 4))
+    ∷ finds 2 2 threeEntries 2 (Found (keyed 0x01 513 17 19 1 22 0))
+    ∷ finds 2 1 threeEntries 3 (misses 13 0)
+    ∷ finds 2 2 threeEntries 3 (misses 13 0)
+    ∷ values 2 2 sku 0 (At (partAt 6 2)) (text "A7")
+    ∷ values 2 2 sku 1 (nowhere 13 0) []
+    ∷ values 2 1 threeEntries 1 (At (partAt 13 4)) (hex "01 02 03 04")
+    ∷ values 2 2 threeEntries 1 (At (partAt 13 4)) (hex "01 02 03 04")
+    ∷ values 2 2 threeEntries 2 (At (partAt 22 0)) []
+    ∷ values 2 2 threeBytes 0 (nowhere 7 0) []
+    ∷ steps 2 2 0 sku (Found (keyed 0x01 513 0 2 3 6 2)) 1
+    ∷ steps 2 2 1 sku (misses 13 0) 1
+    ∷ steps 2 1 1 threeEntries (Found (keyed 0xFE 0 8 11 1 13 4)) 2
+    ∷ steps 2 2 2 threeEntries (Found (keyed 0x01 513 17 19 1 22 0)) 3
+    ∷ steps 2 2 3 threeEntries (misses 13 0) 3
+    ∷ steps 2 2 0 threeBytes (misses 7 0) 0
+    ∷ []
+
+pub every-case : map given cases ≡ map wanted cases
+unfolding given
+every-case = refl
