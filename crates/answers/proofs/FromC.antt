@@ -31,7 +31,7 @@ use Rattle.records.specs.Words.{wordsBytes, readingWords, recordWords}
 use Rattle.records.specs.Exports.{Given, recorded, entryCall, listCall, walkFormat, walkEdition, walkEntry, stepCall, checkCall, writeCall, editCall}
 use Rattle.laws.specs.Contents.{said, replaced}
 use Rattle.laws.specs.Grammar.{Each, none, also as andAlso}
-use Rattle.promises.specs.Words.{Numbered, fboss, vpd, tiny, KnownEdition, Counts, Item, here, there, Lists, Reads, tellsCheck, tellsWrite, tellsEdit, tellsEntry}
+use Rattle.promises.specs.Words.{FormatNumber, fboss, vpd, tiny, KnownEdition, Counts, Item, here, there, Lists, Reads, tellsCheck, tellsWrite, tellsEdit, tellsEntry}
 use Rattle.promises.specs.Names.{Named}
 use Rattle.promises.specs.Kinds.{Means, Marked, MarkedList}
 use Rattle.promises.specs.RoundTrip.{fieldSays}
@@ -199,7 +199,7 @@ module _ (f e : ℕ) (image : List ℕ) (i : ℕ) (v out : List ℕ) (z : number
 
 -- ---- demand 2
 
-same-format : {f : ℕ} {g h : Format} → Numbered f g → Numbered f h → g ≡ h
+same-format : {f : ℕ} {g h : Format} → FormatNumber f g → FormatNumber f h → g ≡ h
 same-format fboss fboss = refl
 same-format vpd vpd = refl
 same-format tiny tiny = refl
