@@ -1,41 +1,108 @@
 #!/usr/bin/env bash
-# Edits of the definitions that the promises must refuse. `rt must-fail` proves an edited crate alone, and the promises stand in a crate of their own,
-# so each edit of tests/definition-edits is applied to a copy of the definitions, the laws and the promises here: the definitions must still be
-# definitions, and the laws or the promises must no longer hold. The worked cases are left out of the copy, so that it is the promises that refuse.
+# Wrong definitions, and what refuses each of them:  tests/definition-edits.sh [NAME...], all of them where none is named.
+# Every edit of tests/definition-edits makes one wrong in a copy, where it must still be a definition.
+# Beside NAME.edit may stand NAME.antt. It proves `pub false : STATEMENT → ⊥` over the edited definitions, STATEMENT being one that crates/promises proves of
+# the right ones: so it is a promise that refuses the edit, and not a proof that no longer fits. It may use Instances.antt; the copy has the definitions and
+# the statements, and no other proof. An edit that has no such file is refused where the laws or the promises are no longer proved. The worked cases are left
+# out of every copy. RT_JOBS edits are tried at a time, 2 where it is not set.
 set -euo pipefail
 cd "$(dirname "$0")/.."
 room=$(mktemp -d)
 trap 'rm -rf "$room"' EXIT
-mkdir -p "$room/base/crates"
-for crate in crc layout laws promises; do
-    mkdir "$room/base/crates/$crate"
-    for part in src specs proofs; do
-        [ ! -d "crates/$crate/$part" ] || cp -R "crates/$crate/$part" "$room/base/crates/$crate/$part"
-    done
-done
-grep -E '^(crc|layout|laws|promises):' crates.txt >"$room/base/crates.txt"
-rm -rf "$room/base/crates/layout/proofs"
-(cd "$room/base" && rt check >"$room/base.log" 2>&1) || { tail -n 20 "$room/base.log"; echo "definition edits: the definitions without an edit are not proved"; exit 1; }
+edits=tests/definition-edits
 
-refused=0 failed=''
-for edit in tests/definition-edits/*.edit; do
+# base FOLDER CRATE...: the four crates in a folder, with the proofs of those named, which are proved as they stand
+base() {
+    local folder=$1 crate parts part
+    shift
+    mkdir -p "$room/$folder/crates"
+    for crate in crc layout laws promises; do
+        mkdir "$room/$folder/crates/$crate"
+        parts='src specs'
+        case " $* " in *" $crate "*) parts='src specs proofs' ;; esac
+        for part in $parts; do
+            [ ! -d "crates/$crate/$part" ] || cp -R "crates/$crate/$part" "$room/$folder/crates/$crate/$part"
+        done
+    done
+    grep -E '^(crc|layout|laws|promises):' crates.txt >"$room/$folder/crates.txt"
+    (cd "$room/$folder" && rt check "$@" >"$room/$folder.log" 2>&1) ||
+        { tail -n 20 "$room/$folder.log"; echo "definition edits: without an edit, not all of $* is proved"; exit 1; }
+}
+
+# verdict LABEL KIND TEXT
+verdict() {
+    echo "$2" >"$room/$1.verdict"
+    echo "definition edit $1: $3"
+}
+
+# the statement that NAME.antt says is false: it must be one of the promises, and the promises' own
+statement() {
+    local said
+    said=$(sed -n 's/^pub false : \([A-Z][A-Za-z]*\) → ⊥$/\1/p' "$1")
+    [ -n "$said" ] || { echo "it has no line \`pub false : STATEMENT → ⊥\`"; return 1; }
+    grep -qE "^pub [a-z-]+ : $said\$" crates/promises/proofs/*.antt || { echo "$said is no statement that the promises prove"; return 1; }
+    grep -qE "^use Rattle\.promises\.specs\.[A-Za-z]+\.\{(.*, )?$said(, .*)?\}\$" "$1" || { echo "$said is not that of the promises"; return 1; }
+    echo "$said"
+}
+
+# tries one edit
+try() {
+    local edit=$1 label copy bad said
     label=$(basename "$edit" .edit)
-    cp -R "$room/base" "$room/$label"
-    bad=$(tests/apply-edit.sh "$edit" "$room/$label") || bad=${bad:-'it does not apply'}
-    if [ -n "$bad" ]; then
-        echo "definition edit $label: BAD EDIT: $bad"
-        failed="$failed $label"
-    elif (cd "$room/$label" && rt check >"$room/$label.log" 2>&1); then
-        echo "definition edit $label: NOT REFUSED"
-        failed="$failed $label"
-    elif ! grep -q '^rt: layout proved' "$room/$label.log"; then
-        echo "definition edit $label: BAD EDIT: the definitions are no longer accepted"
-        failed="$failed $label"
-    else
-        echo "definition edit $label: refused, as it must be ($(grep -m 1 -o 'crates/[a-z]*/proofs/[^ ]*: error' "$room/$label.log" | sed 's/: error$//'))"
-        refused=$((refused + 1))
+    copy=$room/copy-$label
+    if grep -E '^file: ' "$edit" | grep -qvE '^file: crates/layout/specs/'; then
+        verdict "$label" failed 'BAD EDIT: it edits more than the definitions'
+        return
     fi
-    rm -rf "${room:?}/$label"
+    if [ -f "$edits/$label.antt" ]; then
+        said=$(statement "$edits/$label.antt") || { verdict "$label" failed "BAD REFUTATION: $said"; return; }
+        cp -R "$room/definitions" "$copy"
+        mkdir "$copy/crates/promises/proofs"
+        cp "$edits/Instances.antt" "$copy/crates/promises/proofs/Instances.antt"
+        cp "$edits/$label.antt" "$copy/crates/promises/proofs/False.antt"
+        printf 'pub mod Instances\npub mod False\n' >"$copy/crates/promises/proofs/Lib.antt"
+    else
+        said=''
+        cp -R "$room/proofs" "$copy"
+    fi
+    bad=$(tests/apply-edit.sh "$edit" "$copy") || bad=${bad:-'it does not apply'}
+    if [ -n "$bad" ]; then
+        verdict "$label" failed "BAD EDIT: $bad"
+    elif (cd "$copy" && RT_JOBS=1 rt check >"$room/$label.log" 2>&1); then
+        if [ -n "$said" ]; then verdict "$label" shown "$said is false of it"; else verdict "$label" failed 'NOT REFUSED'; fi
+    elif ! grep -q '^rt: layout proved' "$room/$label.log"; then
+        verdict "$label" failed 'BAD EDIT: the definitions are no longer accepted'
+    elif [ -n "$said" ]; then
+        verdict "$label" failed "$said is NOT SHOWN to be false of it: $(grep -m 1 -o 'crates/[a-z]*/[a-z]*/[^ ]*: error.*' "$room/$label.log" | cut -c 1-300)"
+    else
+        verdict "$label" refused "refused, as it must be ($(grep -m 1 -o 'crates/[a-z]*/proofs/[^ ]*: error' "$room/$label.log" | sed 's/: error$//'))"
+    fi
+    rm -rf "$room/copy-$label"
+}
+
+all='' unshown='' stray=''
+if [ $# -eq 0 ]; then all=$(echo "$edits"/*.edit); else for label in "$@"; do all="$all $edits/$label.edit"; done; fi
+for edit in $all; do
+    [ -f "$edit" ] || { echo "definition edits: there is no $edit"; exit 1; }
+    [ -f "${edit%.edit}.antt" ] || unshown="$unshown $edit"
 done
-echo "definition edits: $refused refused${failed:+, failed:$failed}"
+for module in "$edits"/*.antt; do
+    [ "$module" = "$edits/Instances.antt" ] || [ -f "${module%.antt}.edit" ] || stray="$stray $module"
+done
+[ -z "$stray" ] || { echo "definition edits: no edit for$stray"; exit 1; }
+base definitions crc
+[ -z "$unshown" ] || base proofs crc laws promises
+
+for edit in $all; do
+    while [ "$(jobs -rp | wc -l)" -ge "${RT_JOBS:-2}" ]; do wait -n || true; done
+    try "$edit" &
+done
+wait
+count() { cat "$room"/*.verdict | grep -cx "$1" || true; }
+failed=''
+for edit in $all; do
+    label=$(basename "$edit" .edit)
+    case $(cat "$room/$label.verdict" 2>/dev/null) in shown | refused) ;; *) failed="$failed $label" ;; esac
+done
+echo "definition edits: a promise is false of $(count shown), $(count refused) others refused${failed:+, failed:$failed}"
 [ -z "$failed" ]
