@@ -11,7 +11,7 @@ room=$(mktemp -d)
 trap 'rm -rf "$room"' EXIT
 edits=tests/definition-edits
 
-# base FOLDER PROVED...: the four crates, with the proofs of those named, proved as they stand
+# base FOLDER CRATE...: the four crates in a folder, with the proofs of those named, which are proved as they stand
 base() {
     local folder=$1 crate parts part
     shift
@@ -25,8 +25,8 @@ base() {
         done
     done
     grep -E '^(crc|layout|laws|promises):' crates.txt >"$room/$folder/crates.txt"
-    (cd "$room/$folder" && rt check >"$room/$folder.log" 2>&1) ||
-        { tail -n 20 "$room/$folder.log"; echo "definition edits: the definitions without an edit are not proved"; exit 1; }
+    (cd "$room/$folder" && rt check "$@" >"$room/$folder.log" 2>&1) ||
+        { tail -n 20 "$room/$folder.log"; echo "definition edits: without an edit, not all of $* is proved"; exit 1; }
 }
 
 # verdict LABEL KIND TEXT
@@ -83,6 +83,7 @@ try() {
 all='' unshown='' stray=''
 if [ $# -eq 0 ]; then all=$(echo "$edits"/*.edit); else for label in "$@"; do all="$all $edits/$label.edit"; done; fi
 for edit in $all; do
+    [ -f "$edit" ] || { echo "definition edits: there is no $edit"; exit 1; }
     [ -f "${edit%.edit}.antt" ] || unshown="$unshown $edit"
 done
 for module in "$edits"/*.antt; do

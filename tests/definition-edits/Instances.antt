@@ -7,7 +7,6 @@ use native.Mathlib.Omega.{arith}
 use lib.ListN.{length, getD, drop, replicate}
 use Rattle.crc.specs.Crc.{check16Of, check8Of, checkOf, byteIn, singleBit}
 use Rattle.layout.specs.declared.Format.{Format}
-use Rattle.layout.specs.declared.Format.the-variants.{Fboss, Vpd, Tiny}
 use Rattle.layout.specs.declared.Reading.the-variants.{Plain}
 use Rattle.layout.specs.declared.Entry.{Entry}
 use Rattle.layout.specs.Bytes.{all, oneOf, sameBytes, part, highFirst, place, partAt}

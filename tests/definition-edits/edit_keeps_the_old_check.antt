@@ -1,10 +1,9 @@
 -- RoundTrip is false of these definitions. The check that is written covers the entries alone, without the header. The Tiny image that is written of no fields has the check 00h, and its reader refuses it with 10.
 use Prim.Native.Nat.{ℕ}
-use mathlib.Core.Path.{_≡_, refl, ap}
+use mathlib.Core.Path.{refl, ap}
 use mathlib.Core.List.{List, []}
 use native.Mathlib.Omega.{arith}
 use lib.ListN.{length, replicate}
-use Rattle.layout.specs.declared.Entry.{Entry}
 use Rattle.layout.specs.Calls.{Told}
 use Rattle.layout.specs.Write.{Outcome, writeImage}
 use Rattle.promises.specs.Words.{Counts, Reads, tellsCheck}

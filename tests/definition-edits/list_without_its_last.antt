@@ -1,5 +1,4 @@
 -- Listing is false of these definitions. A list has all records but the last. The check of the SKU image counts one entry, and its list counts none.
-use Prim.Native.Nat.{ℕ}
 use mathlib.Core.Path.{_≡_, refl, ap}
 use mathlib.Core.List.{List, [], _∷_}
 use native.Mathlib.Omega.{arith}
