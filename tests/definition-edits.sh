@@ -40,7 +40,7 @@ statement() {
     local said
     said=$(sed -n 's/^pub false : \([A-Z][A-Za-z]*\) → ⊥$/\1/p' "$1")
     [ -n "$said" ] || { echo "it has no line \`pub false : STATEMENT → ⊥\`"; return 1; }
-    grep -qE "^ *pub [a-z-]+ : $said\$" crates/promises/proofs/*.antt || { echo "$said is no statement that the promises prove"; return 1; }
+    grep -qE "^pub [a-z-]+ : $said\$" crates/promises/proofs/*.antt || { echo "$said is no statement that the promises prove"; return 1; }
     grep -qE "^use Rattle\.promises\.specs\.[A-Za-z]+\.\{(.*, )?$said(, .*)?\}\$" "$1" || { echo "$said is not that of the promises"; return 1; }
     echo "$said"
 }

@@ -60,6 +60,15 @@ mixed = 0x01 ∷ 0x03 ∷ 0x53 ∷ 0x4B ∷ 0x55 ∷ 0x02 ∷ 0x41 ∷ 0x37 ∷ 
 abbrev pub blank : Entry
 blank = record { code = 0; kind = 0; place = place 0; key = partAt 0 0; value = partAt 0 0; reading = Plain }
 
+-- the SKU entry's record in an image that begins with it
+abbrev pub sku-record : Entry
+sku-record = record { code = 1; kind = 513; place = place 0; key = partAt 2 3; value = partAt 6 2; reading = Plain }
+
+-- the place of the first record, and 0 where there is none
+abbrev pub first-place : List Entry → ℕ
+first-place [] = 0
+first-place (x ∷ xs) = x .place .0
+
 -- the records that the list call gives where room for n is lent
 abbrev pub records : ℕ → ℕ → List ℕ → ℕ → List Entry
 records f e image n = listEntries f e image (replicate n blank) .records

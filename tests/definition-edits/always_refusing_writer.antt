@@ -1,7 +1,7 @@
 -- Writing is false where every write is refused: VPD with no field is writable into one byte, and is refused.
 use Prim.Native.Nat.{ℕ}
 use mathlib.Core.Path.{_≡_}
-use mathlib.Core.List.{List, [], _∷_}
+use mathlib.Core.List.{[], _∷_}
 use native.Mathlib.Omega.{arith}
 use Rattle.layout.specs.declared.Format.the-variants.{Vpd}
 use Rattle.laws.specs.Grammar.{none}

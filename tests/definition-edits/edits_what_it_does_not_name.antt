@@ -1,15 +1,14 @@
 -- EditRule is false where an edition edits what it does not name: edition 1 takes the edit of a VPD entry of type FEh, and does not name it.
 use Prim.Native.Nat.{ℕ}
-use mathlib.Core.Path.{_≡_, refl, ap, sym, subst}
-use mathlib.Core.List.{List, [], _∷_}
+use mathlib.Core.Path.{_≡_, refl, sym, subst}
+use mathlib.Core.List.{[], _∷_}
 use native.Mathlib.Omega.{arith}
 use lib.ListN.{replicate}
-use Rattle.layout.specs.declared.Format.{Format}
 use Rattle.layout.specs.declared.Format.the-variants.{Vpd}
 use Rattle.layout.specs.declared.Entry.{Entry}
 use Rattle.promises.specs.Words.{Item, here, there, vpd}
-use Rattle.promises.specs.Names.{One, Named, sinceOne, sinceTwo, vpd01}
-use Rattle.promises.specs.EditRule.{Editable, EditRule}
+use Rattle.promises.specs.Names.{Named, sinceOne, sinceTwo, vpd01}
+use Rattle.promises.specs.EditRule.{EditRule}
 use Rattle.promises.proofs.Instances.{computed, fe, records, the-list, the-format}
 
 -- edition 1 names type 01h alone

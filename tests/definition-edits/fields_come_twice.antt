@@ -1,6 +1,6 @@
 -- Writing is false where a field may come twice: two VPD fields with the key "A" are taken, and none may come again.
 use Prim.Native.Nat.{ℕ}
-use mathlib.Core.Path.{_≡_, refl, subst}
+use mathlib.Core.Path.{refl, subst}
 use mathlib.Core.List.{List, [], _∷_, map}
 use lib.ListN.{replicate}
 use Rattle.layout.specs.declared.Format.the-variants.{Vpd}

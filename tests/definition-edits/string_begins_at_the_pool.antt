@@ -1,14 +1,14 @@
 -- StringRule is false where every string begins with the pool: of the Tiny image whose pool at 5 is C1 C2, string 1 is told at 5, and must be at 6.
 use Prim.Native.Nat.{ℕ, _+_, _≤_, _<_}
 use mathlib.Core.Path.{_≡_, refl, ap, subst}
-use mathlib.Core.List.{List, [], _∷_, _++_}
+use mathlib.Core.List.{List, [], _∷_}
 use native.Mathlib.Omega.{arith}
 use Rattle.layout.specs.declared.Part.{Part}
 use Rattle.layout.specs.declared.Entry.{Entry}
 use Rattle.layout.specs.declared.Reading.the-variants.{Plain}
 use Rattle.layout.specs.Bytes.{place, partAt}
 use Rattle.layout.specs.Calls.{Told}
-use Rattle.laws.specs.Grammar.{Each, also, none}
+use Rattle.laws.specs.Grammar.{Each, also}
 use Rattle.promises.specs.Words.{Item, here, there}
 use Rattle.promises.specs.Strings.{Strings, tail, string, PoolStrings, StringRule}
 use Rattle.promises.proofs.Instances.{computed, the-list}
@@ -17,7 +17,7 @@ use Rattle.promises.proofs.Instances.{computed, the-list}
 abbrev image : List ℕ
 image = 0x56 ∷ 0x02 ∷ 0x08 ∷ 0x01 ∷ 0x02 ∷ 0xC1 ∷ 0xC2 ∷ 0x69 ∷ []
 
--- its record
+-- the record of that pool
 abbrev pool : Entry
 pool = record { code = 1; kind = 769; place = place 3; key = partAt 5 0; value = partAt 5 2; reading = Plain }
 

@@ -1,7 +1,6 @@
 -- Lookups is false where every step moves the walk to entry 1: over the VPD image with two entries, two steps must move it to 2.
 use Prim.Native.Nat.{ℕ}
 use mathlib.Core.Path.{_≡_, refl}
-use mathlib.Core.List.{List, [], _∷_}
 use native.Mathlib.Omega.{arith}
 use Rattle.promises.specs.Lookups.{Lookups}
 use Rattle.promises.proofs.Instances.{computed, two}
