@@ -27,7 +27,7 @@ use Rattle.laws.proofs.Formats.{laws}
 use Rattle.laws.proofs.Frames.{raw-size}
 use Rattle.laws.proofs.Passes.{part-most}
 use Rattle.laws.proofs.Walking.{Frames}
-use Rattle.laws.proofs.Images.{Accepts}
+use Rattle.laws.proofs.Images.{entries-in, Accepts}
 use Rattle.laws.proofs.Calls.{accepted-reading}
 use Rattle.laws.proofs.Records.{raw-placed, records-tile}
 use Rattle.promises.specs.Numbers.{imageNumbers}
@@ -57,7 +57,7 @@ tiles-inside p (x ∷ xs) q most le t =
 
 -- the entries end in the image
 pub ends-in : {g : Format} {e : ℕ} {img : List ℕ} {start : ℕ} {rs : List Raw} → Accepts g e img start rs → start + length (flat rs) ≤ length img
-ends-in m = rw (m .is, m .starts) (simp length-append (omega arith))
+ends-in {g} {e} {img} {start} {rs} m = entries-in (shape g) img (flat rs) (m .closing) (m .rest) start (m .is) (m .starts)
 
 -- what is known of the entries of an accepted image and of their records
 pub record Held (g : Format) (e start : ℕ) (rs : List Raw) : Type 0 where

@@ -1,4 +1,4 @@
--- Every number that a format gives is one of an image's own: for an entry's head, for its length, for the image's header.
+-- Every number that a format gives is one of a bad frame: for an entry's head, for its length, for the image's header.
 -- Assumes nothing.
 use Prim.Native.Nat.{ℕ, zero, suc, _+_, _*_, _-_, _≤_}
 use mathlib.Core.Path.{_≡_, refl}
@@ -28,44 +28,45 @@ use Rattle.layout.specs.Vpd.{vpd, groups, keyedHead, vpdHead}
 use Rattle.layout.specs.Tiny.{tiny, tinyOpened, tinyHead, tinyLength}
 use Rattle.layout.specs.Editions.{shape, knownEdition, withEdition, chosen}
 use Rattle.laws.proofs.Choices.{false-true, either, both}
-use Rattle.promises.specs.Numbers.{imageNumbers}
+use Rattle.promises.specs.FramesAlike.{frameNumbers}
 
 -- one of these numbers, and a place that is not beyond `most`
 pub record Low (numbers : List ℕ) (most n p : ℕ) : Type 0 where
   pub number : oneOf numbers n ≡ true
   pub place : p ≤ most
 
--- a number of a list that has none but 1 to 16 is one of those: never the 0 of an answer that is not refused
-pub tabled : (numbers : List ℕ) (n : ℕ) → all (between 1 16) numbers ≡ true → oneOf numbers n ≡ true → (1 ≤ n) × (n ≤ 16)
+-- what passes for each number of a list passes for a number that is one of them
+pub every : (t : ℕ → Bool) (numbers : List ℕ) (n : ℕ) → all t numbers ≡ true → oneOf numbers n ≡ true → t n ≡ true
 unfolding all oneOf
-tabled [] n a h = false-true h
-tabled (x ∷ xs) n a h =
-    let b = both (between 1 16 x) (all (between 1 16) xs) a in
-    let c = both (leb 1 x) (leb x 16) (b .0) in
-    go (eqb n x) refl h (leb-true 1 x (c .0), leb-true x 16 (c .1)) (tabled xs n (b .1))
+every t [] n a h = false-true h
+every t (x ∷ xs) n a h = let b = both (t x) (all t xs) a in go (eqb n x) refl h (b .0) (every t xs n (b .1))
   where
-    go : (t : Bool) → eqb n x ≡ t → if t (λ _. true) (λ _. oneOf xs n) ≡ true → (1 ≤ x) × (x ≤ 16) → (oneOf xs n ≡ true → (1 ≤ n) × (n ≤ 16)) → (1 ≤ n) × (n ≤ 16)
+    go : (u : Bool) → eqb n x ≡ u → if u (λ _. true) (λ _. oneOf xs n) ≡ true → t x ≡ true → (oneOf xs n ≡ true → t n ≡ true) → t n ≡ true
     go true e h i rest = rw (eqb-true n x e) i
     go false e h i rest = rest h
+
+-- a number of a list that has none but 1 to 16 is one of those: never the 0 of an answer that is not refused
+pub tabled : (numbers : List ℕ) (n : ℕ) → all (between 1 16) numbers ≡ true → oneOf numbers n ≡ true → (1 ≤ n) × (n ≤ 16)
+tabled numbers n a h = let c = both (leb 1 n) (leb n 16) (every (between 1 16) numbers n a h) in (leb-true 1 n (c .0), leb-true n 16 (c .1))
 
 abbrev HeadNumber : Headed → Type 0
 HeadNumber (Opens h) = Unit {0}
 HeadNumber Ends = Unit {0}
-HeadNumber (Wrong n) = oneOf imageNumbers n ≡ true
+HeadNumber (Wrong n) = oneOf frameNumbers n ≡ true
 
 abbrev LengthNumber : Length → Type 0
 LengthNumber (Reads v j) = Unit {0}
-LengthNumber (Fails n) = oneOf imageNumbers n ≡ true
+LengthNumber (Fails n) = oneOf frameNumbers n ≡ true
 
 abbrev pub NextNumber : Next → Type 0
 NextNumber (Framed f) = Unit {0}
 NextNumber Ended = Unit {0}
-NextNumber (Broken n) = oneOf imageNumbers n ≡ true
+NextNumber (Broken n) = oneOf frameNumbers n ≡ true
 
 -- the place of a header that is refused is one of its own
 abbrev pub OpenedLow : Opened → Type 0
 OpenedLow (Room start end) = Unit {0}
-OpenedLow (Closed r) = Low imageNumbers 4 (r .number) (r .place .0)
+OpenedLow (Closed r) = Low frameNumbers 4 (r .number) (r .place .0)
 
 abbrev pub ChosenNumber : List ℕ → Chosen → Type 0
 ChosenNumber numbers (Known f) = Unit {0}

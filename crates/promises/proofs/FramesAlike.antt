@@ -1,100 +1,130 @@
--- A bad frame is reported alike by every known edition: only the rules look at the edition, and they come after every frame.
+-- A bad frame is reported alike by every known edition, and a number of the rules is given exactly where the frames and the check are right: only the rules look at
+-- the edition, and they come after every frame.
 -- Assumes nothing.
-use Prim.Native.Nat.{ℕ, zero, suc, _+_, _-_}
-use mathlib.Core.Path.{_≡_, refl, sym, _∙_}
-use mathlib.Core.List.{List, [], _∷_, _++_}
+use Prim.Native.Nat.{ℕ, _≤_}
+use mathlib.Core.Path.{_≡_, refl, ap, sym, _∙_}
+use mathlib.Core.List.{List, [], map}
 use mathlib.Core.Bool.{Bool, true, false}
 use lib.ListN.{length}
 use lib.Dec.{ltb}
+use borrow.Author.Tests.{ltb-false, le-ltb}
 use Rattle.layout.specs.declared.Format.{Format}
 use Rattle.layout.specs.declared.Chosen.{Chosen}
 use Rattle.layout.specs.declared.Chosen.the-variants.{Known, Unknown}
-use Rattle.layout.specs.declared.Opened.{Opened}
-use Rattle.layout.specs.declared.Opened.the-variants.{Room, Closed}
-use Rattle.layout.specs.Bytes.{if, oneOf, part}
-use Rattle.layout.specs.Shape.{Shape, Label}
-use Rattle.layout.specs.Editions.{shape, names, chosen}
-use Rattle.layout.specs.Walk.{Raw, Content, content, labelOf, Walked, done, stop, walk}
-use Rattle.layout.specs.Read.{limit, checkPlace, sealed, seenBefore, readerRule, fault, Judged, fine, faulty, orElse, judge, complete, codesOf, Read, bad, readComplete, readWalked, readOpened, readAs, readChosen, readImage}
+use Rattle.layout.specs.Bytes.{if, all, oneOf}
+use Rattle.layout.specs.Editions.{shape, chosen}
+use Rattle.layout.specs.Walk.{Raw, content, flat}
+use Rattle.layout.specs.Read.{limit, judge, Read, accepted, refused, bad, readComplete, readAs, readChosen, readImage}
 use Rattle.layout.specs.Calls.{Told, toldChecked, checkedBy, checkImage}
 use Rattle.laws.proofs.Choices.{false-true, either}
-use Rattle.promises.specs.Words.{KnownEdition}
-use Rattle.promises.specs.FramesAlike.{FramesAlike}
-use Rattle.promises.proofs.Telling.{edition-known}
-
--- the numbers that are told before the rules
-abbrev framed : ℕ → Bool
-framed n = oneOf (2 ∷ 3 ∷ 4 ∷ 5 ∷ 6 ∷ 9 ∷ 10 ∷ []) n
+use Rattle.laws.proofs.Formats.{laws}
+use Rattle.laws.proofs.Images.{imageFrom, IsFramed, Way, unframed, framed, way, made-read}
+use Rattle.promises.specs.Words.{KnownEdition, Serves, tellsCheck}
+use Rattle.promises.specs.FramesAlike.{Framed, frameNumbers, ruleNumbers, FramesAlike}
+use Rattle.promises.proofs.FormatNumbers.{every}
+use Rattle.promises.proofs.Refusals.{ReadLow, ruleRefusals, ruled-low, unframed-low}
+use Rattle.promises.proofs.Telling.{edition-known, serves-chosen}
+use Rattle.promises.proofs.PublishedRules.{Walks, entries-frames, frames-entries}
 
 abbrev tells : Read → Told
 tells x = toldChecked (checkedBy x)
 
--- ---- the rules tell none of these numbers
+abbrev OfFrame : Read → Type 0
+OfFrame x = oneOf frameNumbers (tells x .number) ≡ true
 
-fault-unframed : (S : Shape) (e : ℕ) (seen : List Label) (c : Content) → framed (fault S e seen c) ≡ false
-unfolding fault oneOf
-fault-unframed S e seen c =
-    either (λ n. framed n ≡ false) (names S e (c .code))
-    (λ _. either (λ n. framed n ≡ false) (readerRule S c)
-    (λ _. either (λ n. framed n ≡ false) (seenBefore S seen (labelOf c)) (λ _. refl) (λ _. refl))
-    (λ _. refl))
-    (λ _. refl)
+abbrev OfRule : Read → Type 0
+OfRule x = oneOf ruleNumbers (tells x .number) ≡ true
 
-abbrev Unframed : Judged → Type 0
-Unframed fine = Unit {0}
-Unframed (faulty n p) = framed n ≡ false
+-- ---- the two lists
 
-or-unframed : (n p : ℕ) (rest : Unit {0} → Judged) → framed n ≡ false → Unframed (rest tt) → Unframed (orElse n p rest)
-or-unframed zero p rest h r = r
-or-unframed (suc n) p rest h r = h
+low-rule : (x : Read) → ReadLow ruleRefusals x → OfRule x
+unfolding all oneOf
+low-rule (accepted g start rs) l = refl
+low-rule (refused r) l = every (oneOf ruleNumbers) ruleRefusals (r .number) refl (l .number)
 
-judge-unframed : (S : Shape) (e : ℕ) (seen : List Label) (rs : List Raw) (p : ℕ) → Unframed (judge S e seen rs p)
-unfolding judge
-judge-unframed S e seen [] p = tt
-judge-unframed S e seen (r ∷ rs) p =
-    or-unframed (fault S e seen (content r)) p (λ _. judge S e (seen ++ (labelOf (content r) ∷ [])) rs (p + r .frame .size))
-    (fault-unframed S e seen (content r)) (judge-unframed S e (seen ++ (labelOf (content r) ∷ [])) rs (p + r .frame .size))
+-- no number is in both
+apart : {A : Type 0} (x : Read) → OfRule x → OfFrame x → A
+unfolding all oneOf
+apart x r h =
+    let none : if (oneOf frameNumbers (tells x .number)) (λ _. false) (λ _. true) ≡ true
+    = every (λ n. if (oneOf frameNumbers n) (λ _. false) (λ _. true)) ruleNumbers (tells x .number) refl r in
+    false-true (rw h at none)
 
-complete-unframed : (j : Judged) (g : Format) (start : ℕ) (rs : List Raw) → Unframed j → framed (tells (readComplete j g start rs) .number) ≡ false
-unfolding oneOf
-complete-unframed fine g start rs u =
-    either (λ (x : Read). framed (tells x .number) ≡ false) (complete (shape g .required) (codesOf rs)) (λ _. refl) (λ _. refl)
-complete-unframed (faulty n p) g start rs u = u
+-- ---- framed images
 
--- ---- what comes before them is the same
+-- what is read up to the rules is framed
+framed-is : (g : Format) (image : List ℕ) (start : ℕ) (rs : List Raw) → length image ≤ limit → IsFramed g image start rs → Framed g image
+framed-is g image start rs short x =
+    record {
+      contents = map content rs;
+      entries = flat rs;
+      closing = x .closing;
+      rest = x .rest;
+      is = x .is;
+      closes = x .closes;
+      made = frames-entries (laws g) false rs (x .frames);
+      short = short;
+    }
+
+-- what is framed is read up to the rules, by every edition
+framed-rule : (g : Format) (e : ℕ) (image : List ℕ) → Framed g image → OfRule (readAs g e image)
+framed-rule g e image x =
+    let w = entries-frames (laws g) (x .made) in
+    let start = length (shape g .header (length (flat (w .raws)))) in
+    let whole : image ≡ imageFrom (shape g) (flat (w .raws)) (x .closing) (x .rest) = rw (w .flatly) (x .is) in
+    let read : readAs g e image ≡ readComplete (judge (shape g) e [] (w .raws) start) g start (w .raws)
+    = rw whole (made-read g (laws g) e (w .raws) (x .closing) (x .rest) (x .closes) (w .frames)) in
+    let found : IsFramed g image start (w .raws) = record { closing = x .closing; rest = x .rest; closes = x .closes; is = whole; starts = refl; frames = w .frames } in
+    rw read (low-rule (readComplete (judge (shape g) e [] (w .raws) start) g start (w .raws)) (ruled-low g e image start (w .raws) (x .short) found))
+
+-- ---- by how an image is read
+
+module _ (g : Format) (image : List ℕ) (short : length image ≤ limit) where
+  as-alike : (d e : ℕ) → OfFrame (readAs g d image) → tells (readAs g e image) ≡ tells (readAs g d image)
+  as-alike d e h = go (way g (laws g) image)
+    where
+      go : Way g image → tells (readAs g e image) ≡ tells (readAs g d image)
+      go (unframed r u k) = ap tells (k e ∙ sym (k d))
+      go (framed start rs x k) =
+          let y = readComplete (judge (shape g) d [] rs start) g start rs in
+          apart y (low-rule y (ruled-low g d image start rs short x)) (rw (k d) at h)
+
+  as-unframed : (e : ℕ) → (Framed g image → ⊥) → OfFrame (readAs g e image)
+  as-unframed e no-frame = go (way g (laws g) image)
+    where
+      go : Way g image → OfFrame (readAs g e image)
+      go (unframed r u k) = rw (k e) (unframed-low g image r short u .number)
+      go (framed start rs x k) = absurd (no-frame (framed-is g image start rs short x))
+
+-- ---- any format number and edition
 
 chosen-alike : (f d e : ℕ) → KnownEdition d → KnownEdition e → chosen f e ≡ chosen f d
 unfolding chosen
 chosen-alike f d e kd ke = rw (edition-known d kd, edition-known e ke)
 
-module _ (d e : ℕ) (image : List ℕ) where
-  -- where edition d tells a number of before the rules, edition e tells the same
-  abbrev Alike : (ℕ → Read) → Type 0
-  Alike read = framed (tells (read d) .number) ≡ true → tells (read e) ≡ tells (read d)
+read-alike : (d e : ℕ) (image : List ℕ) (x : Chosen) → OfFrame (readChosen x d image) → tells (readChosen x e image) ≡ tells (readChosen x d image)
+read-alike d e image (Known g) h = bounded (ltb limit (length image)) refl h
+  where
+    bounded : (t : Bool) → ltb limit (length image) ≡ t → OfFrame (if t (λ _. bad 2 0) (λ _. readAs g d image)) →
+        tells (if t (λ _. bad 2 0) (λ _. readAs g e image)) ≡ tells (if t (λ _. bad 2 0) (λ _. readAs g d image))
+    bounded true q h = refl
+    bounded false q h = as-alike g image (ltb-false limit (length image) q) d e h
+read-alike d e image (Unknown n) h = refl
 
-  sealed-alike : (g : Format) (start p : ℕ) (rs : List Raw) (t : Bool) →
-      Alike (λ n. if t (λ _. readComplete (judge (shape g) n [] rs start) g start rs) (λ _. bad 10 (checkPlace (shape g) p)))
-  sealed-alike g start p rs true h =
-      false-true (sym (complete-unframed (judge (shape g) d [] rs start) g start rs (judge-unframed (shape g) d [] rs start)) ∙ h)
-  sealed-alike g start p rs false h = refl
+tells-alike : (f d e : ℕ) (image : List ℕ) → KnownEdition d → KnownEdition e → oneOf frameNumbers (tellsCheck f d image .number) ≡ true →
+    tellsCheck f e image ≡ tellsCheck f d image
+unfolding checkImage readImage
+tells-alike f d e image kd ke h = rw (chosen-alike f d e kd ke) (read-alike d e image (chosen f d) h)
 
-  walked-alike : (g : Format) (start : ℕ) (w : Walked) → Alike (λ n. readWalked w g n image start)
-  walked-alike g start (done rs p) h = sealed-alike g start p rs (sealed (shape g) image p) h
-  walked-alike g start (stop n p) h = refl
+tells-rule : (f e : ℕ) (g : Format) (image : List ℕ) → Serves f e g → Framed g image → oneOf ruleNumbers (tellsCheck f e image .number) ≡ true
+unfolding checkImage readImage
+tells-rule f e g image s x = rw (serves-chosen s, le-ltb limit (length image) (x .short)) (framed-rule g e image x)
 
-  opened-alike : (g : Format) (x : Opened) → Alike (λ n. readOpened x g n image)
-  opened-alike g (Room start end) h = walked-alike g start (walk (shape g) false start (part start (end - start) image)) h
-  opened-alike g (Closed r) h = refl
-
-  bounded-alike : (g : Format) (t : Bool) → Alike (λ n. if t (λ _. bad 2 0) (λ _. readAs g n image))
-  unfolding readAs
-  bounded-alike g true h = refl
-  bounded-alike g false h = opened-alike g (shape g .opened image) h
-
-  read-alike : (x : Chosen) → Alike (λ n. readChosen x n image)
-  read-alike (Known g) h = bounded-alike g (ltb limit (length image)) h
-  read-alike (Unknown n) h = refl
+tells-frame : (f e : ℕ) (g : Format) (image : List ℕ) → Serves f e g → (Framed g image → ⊥) → oneOf frameNumbers (tellsCheck f e image .number) ≡ true
+unfolding checkImage readImage oneOf
+tells-frame f e g image s no-frame =
+    rw (serves-chosen s)
+    (either OfFrame (ltb limit (length image)) (λ _. refl) (λ t. as-unframed g image (ltb-false limit (length image) t) e no-frame))
 
 pub frames-alike : FramesAlike
-unfolding checkImage readImage
-frames-alike f d e image kd ke h = rw (chosen-alike f d e kd ke) (read-alike d e image (chosen f d) h)
+frames-alike = record { alike = tells-alike; framed = tells-rule; unframed = tells-frame }

@@ -54,7 +54,7 @@ module _ {S : Shape} {G : Grammar} (L : Laws S G) where
   entry-raw {bytes} {c} x =
       record { front = x .front; lens = x .lens; code = c .code; key = c .key; value = c .value; is = x .is; opens = x .opens; says = x .says; framed = refl }
 
-  entries-frames : {b : Bool} {bytes : List ℕ} {cs : List Content} → Entries G S b bytes cs → Walks S G b bytes cs
+  pub entries-frames : {b : Bool} {bytes : List ℕ} {cs : List Content} → Entries G S b bytes cs → Walks S G b bytes cs
   unfolding entryRaw entry-raw
   entries-frames noEntry = record { raws = []; frames = tt; flatly = refl; says = refl }
   entries-frames (entry {c} {cs} {bytes} {more} x rest) =

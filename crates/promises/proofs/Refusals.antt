@@ -14,23 +14,24 @@ use Rattle.layout.specs.declared.Chosen.{Chosen}
 use Rattle.layout.specs.declared.Chosen.the-variants.{Known, Unknown}
 use Rattle.layout.specs.declared.Next.{Next}
 use Rattle.layout.specs.declared.Next.the-variants.{Framed, Ended, Broken}
-use Rattle.layout.specs.declared.Opened.{Opened}
 use Rattle.layout.specs.declared.Opened.the-variants.{Room, Closed}
 use Rattle.layout.specs.declared.Refusal.{Refusal}
-use Rattle.layout.specs.Bytes.{if, oneOf, part}
+use Rattle.layout.specs.Bytes.{if, all, oneOf, part}
 use Rattle.layout.specs.Shape.{Label, next}
 use Rattle.layout.specs.Editions.{shape, chosen, names}
 use Rattle.layout.specs.Walk.{Raw, Content, content, labelOf, flat, Walked, done, stop, more, turn, walks, walk}
-use Rattle.layout.specs.Read.{limit, sealed, seenBefore, readerRule, fault, Judged, fine, faulty, orElse, judge, complete, codesOf, Read, accepted, refused, readComplete, readWalked, readOpened, readAs, readChosen, readImage}
+use Rattle.layout.specs.Read.{limit, seenBefore, readerRule, fault, Judged, fine, faulty, orElse, judge, complete, codesOf, Read, accepted, refused, readComplete, readAs, readChosen, readImage}
 use Rattle.laws.specs.Grammar.{grammar}
 use Rattle.laws.proofs.Choices.{either}
 use Rattle.laws.proofs.Formats.{laws}
 use Rattle.laws.proofs.Frames.{raw-size, framed-in}
 use Rattle.laws.proofs.Passes.{part-most}
-use Rattle.laws.proofs.Walking.{Frames, walk-decode}
+use Rattle.laws.proofs.Walking.{Frames}
+use Rattle.laws.proofs.Images.{IsFramed, entries-in, Unframed, badHeader, badFrame, badCheck, Way, unframed, framed, way}
 use Rattle.laws.proofs.Rooms.{closing-short, room-inside}
 use Rattle.promises.specs.Numbers.{imageNumbers}
-use Rattle.promises.proofs.FormatNumbers.{Low, NextNumber, OpenedLow, ChosenNumber, next-number, opened-low, chosen-number}
+use Rattle.promises.specs.FramesAlike.{frameNumbers}
+use Rattle.promises.proofs.FormatNumbers.{Low, every, NextNumber, OpenedLow, ChosenNumber, next-number, opened-low, chosen-number}
 
 -- the farthest place of an image: a stored check begins at most two bytes after the entries
 abbrev pub farthest : ℕ
@@ -40,7 +41,7 @@ farthest = 65538
 
 abbrev WalkedLow : ℕ → Walked → Type 0
 WalkedLow most (done rs p) = p ≤ most
-WalkedLow most (stop n p) = Low imageNumbers most n p
+WalkedLow most (stop n p) = Low frameNumbers most n p
 
 more-low : (most : ℕ) (r : Raw) (w : Walked) → WalkedLow most w → WalkedLow most (more r w)
 more-low most r (done rs p) l = l
@@ -77,62 +78,87 @@ unfolding oneOf
 or-low numbers most zero p rest l le r = r
 or-low numbers most (suc n) p rest l le r = record { number = rw (ne-eqb (suc n) 0 (λ z. omega arith)) at l; place = le }
 
-fault-number : (f : Format) (e : ℕ) (seen : List Label) (c : Content) → Fault imageNumbers (fault (shape f) e seen c)
+-- the numbers of an entry that breaks a rule; with 11, those of an image that the rules refuse
+abbrev faultNumbers : List ℕ
+faultNumbers = 7 ∷ 8 ∷ []
+
+abbrev pub ruleRefusals : List ℕ
+ruleRefusals = 7 ∷ 8 ∷ 11 ∷ []
+
+fault-number : (f : Format) (e : ℕ) (seen : List Label) (c : Content) → Fault faultNumbers (fault (shape f) e seen c)
 unfolding fault oneOf
 fault-number f e seen c =
-    either (Fault imageNumbers) (names (shape f) e (c .code))
-    (λ _. either (Fault imageNumbers) (readerRule (shape f) c)
-    (λ _. either (Fault imageNumbers) (seenBefore (shape f) seen (labelOf c)) (λ _. refl) (λ _. refl))
+    either (Fault faultNumbers) (names (shape f) e (c .code))
+    (λ _. either (Fault faultNumbers) (readerRule (shape f) c)
+    (λ _. either (Fault faultNumbers) (seenBefore (shape f) seen (labelOf c)) (λ _. refl) (λ _. refl))
     (λ _. refl))
     (λ _. refl)
 
 judge-low : (f : Format) (e : ℕ) (seen : List Label) (b : Bool) (rs : List Raw) (p most : ℕ) → Frames (shape f) (grammar f) b rs → p + length (flat rs) ≤ most →
-    JudgedLow imageNumbers most (judge (shape f) e seen rs p)
+    JudgedLow faultNumbers most (judge (shape f) e seen rs p)
 unfolding judge
 judge-low f e seen b [] p most fs le = tt
 judge-low f e seen b (r ∷ rs) p most fs le =
-    or-low imageNumbers most (fault (shape f) e seen (content r)) p (λ _. judge (shape f) e (seen ++ (labelOf (content r) ∷ [])) rs (p + r .frame .size))
+    or-low faultNumbers most (fault (shape f) e seen (content r)) p (λ _. judge (shape f) e (seen ++ (labelOf (content r) ∷ [])) rs (p + r .frame .size))
     (fault-number f e seen (content r)) (omega arith)
     (judge-low f e (seen ++ (labelOf (content r) ∷ [])) (shape f .last (r .frame .code)) rs (p + r .frame .size) most (fs .2) (omega (arith, length-append (r .bytes) (flat rs), raw-size (fs .1))))
 
 -- ---- the image
 
-abbrev pub ReadLow : Read → Type 0
-ReadLow (accepted f start rs) = Unit {0}
-ReadLow (refused r) = Low imageNumbers farthest (r .number) (r .place .0)
+abbrev pub ReadLow : List ℕ → Read → Type 0
+ReadLow numbers (accepted f start rs) = Unit {0}
+ReadLow numbers (refused r) = Low numbers farthest (r .number) (r .place .0)
 
-complete-low : (f : Format) (start : ℕ) (rs : List Raw) (j : Judged) → JudgedLow imageNumbers limit j → ReadLow (readComplete j f start rs)
+complete-low : (f : Format) (start : ℕ) (rs : List Raw) (j : Judged) → JudgedLow faultNumbers limit j → ReadLow ruleRefusals (readComplete j f start rs)
+unfolding all oneOf
+complete-low f start rs fine l = either (ReadLow ruleRefusals) (complete (shape f .required) (codesOf rs)) (λ _. tt) (λ _. record { number = refl; place = omega arith })
+complete-low f start rs (faulty n p) l = record { number = every (oneOf ruleRefusals) faultNumbers n refl (l .number); place = omega (arith, l .place) }
+
+-- what the rules refuse is refused with a number of theirs
+pub ruled-low : (f : Format) (e : ℕ) (img : List ℕ) (start : ℕ) (rs : List Raw) → length img ≤ limit → IsFramed f img start rs →
+    ReadLow ruleRefusals (readComplete (judge (shape f) e [] rs start) f start rs)
+ruled-low f e img start rs short x =
+    let inside = entries-in (shape f) img (flat rs) (x .closing) (x .rest) start (x .is) (x .starts) in
+    complete-low f start rs (judge (shape f) e [] rs start) (judge-low f e [] false rs start limit (x .frames) (omega arith))
+
+walk-low : (f : Format) (img : List ℕ) (start end : ℕ) → length img ≤ limit → shape f .opened img ≡ Room start end →
+    WalkedLow limit (walk (shape f) false start (part start (end - start) img))
+unfolding walk
+walk-low f img start end short q =
+    let i = room-inside f img start end q in
+    let s = part start (end - start) img in
+    walks-low f (suc (length s)) false start s limit (omega (arith, part-most img start (end - start)))
+
+-- what is refused before the rules is refused with a number of a bad frame
+pub unframed-low : (f : Format) (img : List ℕ) (r : Refusal) → length img ≤ limit → Unframed f img r → Low frameNumbers farthest (r .number) (r .place .0)
 unfolding oneOf
-complete-low f start rs fine l = either ReadLow (complete (shape f .required) (codesOf rs)) (λ _. tt) (λ _. record { number = refl; place = omega arith })
-complete-low f start rs (faulty n p) l = record { number = l .number; place = omega (arith, l .place) }
+unframed-low f img r short (badHeader o) = let l : OpenedLow (Closed r) = rw o at (opened-low f img) in record { number = l .number; place = omega (arith, l .place) }
+unframed-low f img _ short (badFrame {start} {end} {n} {p} o w) =
+    let l : WalkedLow limit (stop n p) = rw w at (walk-low f img start end short o) in record { number = l .number; place = omega (arith, l .place) }
+unframed-low f img _ short (badCheck {start} {end} {p} {rs} o w t) =
+    let l : WalkedLow limit (done rs p) = rw w at (walk-low f img start end short o) in record { number = refl; place = omega (arith, closing-short f) }
 
-pub read-low : (f : Format) (e : ℕ) (img : List ℕ) → length img ≤ limit → ReadLow (readAs f e img)
-unfolding readAs walk oneOf
-read-low f e img short = opens (shape f .opened img) refl (opened-low f img)
+pub read-low : (f : Format) (e : ℕ) (img : List ℕ) → length img ≤ limit → ReadLow imageNumbers (readAs f e img)
+unfolding all oneOf
+read-low f e img short = go (way f (laws f) img)
   where
-    walked : (start end : ℕ) → end ≤ limit → start ≤ end → (w : Walked) → walk (shape f) false start (part start (end - start) img) ≡ w → WalkedLow limit w → ReadLow (readWalked w f e img start)
-    walked start end le from (done rs p) q l =
-        either ReadLow (sealed (shape f) img p)
-        (λ _.
-        let d = walk-decode (laws f) start (part start (end - start) img) rs p q in
-        complete-low f start rs (judge (shape f) e [] rs start) (judge-low f e [] false rs start limit (d .frames) (omega (arith, d .place))))
-        (λ _. record { number = refl; place = omega (arith, closing-short f) })
-    walked start end le from (stop n p) q l = record { number = l .number; place = omega (arith, l .place) }
+    wide : (x : Read) → ReadLow ruleRefusals x → ReadLow imageNumbers x
+    wide (accepted g start rs) l = tt
+    wide (refused r) l = record { number = every (oneOf imageNumbers) ruleRefusals (r .number) refl (l .number); place = l .place }
 
-    opens : (x : Opened) → shape f .opened img ≡ x → OpenedLow x → ReadLow (readOpened x f e img)
-    opens (Room start end) q l =
-        let i = room-inside f img start end q in
-        let s = part start (end - start) img in
-        walked start end (omega arith) (i .0) (walk (shape f) false start s) refl
-        (walks-low f (suc (length s)) false start s limit (omega (arith, part-most img start (end - start))))
-    opens (Closed r) q l = record { number = l .number; place = omega (arith, l .place) }
+    go : Way f img → ReadLow imageNumbers (readAs f e img)
+    go (unframed r u k) =
+        let l = unframed-low f img r short u in
+        rw (k e) (record { number = every (oneOf imageNumbers) frameNumbers (r .number) refl (l .number); place = l .place })
+    go (framed start rs x k) = rw (k e) (wide (readComplete (judge (shape f) e [] rs start) f start rs) (ruled-low f e img start rs short x))
 
-image-low : (f e : ℕ) (img : List ℕ) → ReadLow (readImage f e img)
+image-low : (f e : ℕ) (img : List ℕ) → ReadLow imageNumbers (readImage f e img)
 unfolding readImage oneOf
 image-low f e img = choose (chosen f e) (chosen-number imageNumbers refl refl f e)
   where
-    choose : (x : Chosen) → ChosenNumber imageNumbers x → ReadLow (readChosen x e img)
-    choose (Known g) l = either ReadLow (ltb limit (length img)) (λ _. record { number = refl; place = omega arith }) (λ t. read-low g e img (ltb-false limit (length img) t))
+    choose : (x : Chosen) → ChosenNumber imageNumbers x → ReadLow imageNumbers (readChosen x e img)
+    choose (Known g) l =
+        either (ReadLow imageNumbers) (ltb limit (length img)) (λ _. record { number = refl; place = omega arith }) (λ t. read-low g e img (ltb-false limit (length img) t))
     choose (Unknown n) l = record { number = l; place = omega arith }
 
 pub refused-low : (f e : ℕ) (img : List ℕ) (r : Refusal) → readImage f e img ≡ refused r → Low imageNumbers farthest (r .number) (r .place .0)

@@ -76,7 +76,7 @@ edited-low f e img i v out = choose (chosen f e) (chosen-number editNumbers refl
     allows S rs allowed short l = put-low editNumbers farthest S (imageOf S (editedBytes S rs i v)) out refl short
     allows S rs (denied r) short l = l
 
-    reads : (g : Format) (x : Read) → length img ≤ limit → length out ≤ limit → readAs g e img ≡ x → ReadLow x → OutcomeLow editNumbers farthest (editRead x e i v out)
+    reads : (g : Format) (x : Read) → length img ≤ limit → length out ≤ limit → readAs g e img ≡ x → ReadLow imageNumbers x → OutcomeLow editNumbers farthest (editRead x e i v out)
     reads g (accepted h start rs) short fits q l =
         let m = accepted-made g (laws g) e img h start rs q in
         rw (m .0)
