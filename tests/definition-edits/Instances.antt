@@ -22,7 +22,7 @@ use Rattle.layout.specs.Write.{Outcome, writerRule, fieldFault, judgeFields, en
 use Rattle.layout.specs.Edit.{revalued, editedBytes, editRule, mayEdit, editEntry}
 use Rattle.laws.specs.Contents.{said, replaced}
 use Rattle.laws.specs.Grammar.{Each}
-use Rattle.promises.specs.Words.{Numbered, fboss as is-fboss, vpd as is-vpd, tiny as is-tiny, Counts, Lists, Reads, tellsCheck, tellsEdit}
+use Rattle.promises.specs.Words.{FormatNumber, fboss as is-fboss, vpd as is-vpd, tiny as is-tiny, Counts, Lists, Reads, tellsCheck, tellsEdit}
 use Rattle.promises.specs.Kinds.{Marked, MarkedList, Kinds}
 use Rattle.promises.specs.OlderEdits.{OlderEdits, Kept}
 use Rattle.promises.specs.Lookups.{toldBySteps, numberAfter}
@@ -106,7 +106,7 @@ number-at k same = ap (λ (cs : List Content). getD (spelled cs) k 0) same
 -- ---- formats
 
 -- a format's number stands for one format
-pub the-format : {f : ℕ} {g h : Format} → Numbered f g → Numbered f h → g ≡ h
+pub the-format : {f : ℕ} {g h : Format} → FormatNumber f g → FormatNumber f h → g ≡ h
 the-format is-fboss is-fboss = refl
 the-format is-vpd is-vpd = refl
 the-format is-tiny is-tiny = refl
@@ -114,7 +114,7 @@ the-format is-tiny is-tiny = refl
 -- ---- kinds
 
 -- what Kinds says of the records that the list call gives
-pub marks : Kinds → (f e : ℕ) (format : Format) (image : List ℕ) (n : ℕ) → Numbered f format → Counts (tellsCheck f e image) n →
+pub marks : Kinds → (f e : ℕ) (format : Format) (image : List ℕ) (n : ℕ) → FormatNumber f format → Counts (tellsCheck f e image) n →
     Each (Marked f e format image) (records f e image n)
 marks kinds f e format image n is counts =
     let m = kinds f e image n counts in

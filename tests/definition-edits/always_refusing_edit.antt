@@ -1,6 +1,6 @@
 -- EditRule is false where every edit is refused: the SKU image's value edited to "B" fits ten bytes, and is refused.
 use Prim.Native.Nat.{ℕ}
-use mathlib.Core.Path.{_≡_, refl, sym, subst}
+use mathlib.Core.Path.{_≡_, refl, sym, subst, ap}
 use mathlib.Core.List.{List, [], _∷_}
 use mathlib.Core.Bool.{true}
 use native.Mathlib.Omega.{arith}
@@ -9,6 +9,7 @@ use Rattle.layout.specs.declared.Format.the-variants.{Vpd}
 use Rattle.layout.specs.Editions.{shape}
 use Rattle.layout.specs.Edit.{editRule}
 use Rattle.laws.specs.Contents.{Tiles}
+use Rattle.layout.specs.Calls.{Told}
 use Rattle.promises.specs.Words.{Item, here, vpd}
 use Rattle.promises.specs.Names.{Named, sinceOne, vpd01}
 use Rattle.promises.specs.Listing.{ListOf}
@@ -44,5 +45,5 @@ pub false : EditRule → ⊥
 unfolding computed
 false rule =
     let edits = rule .edits 2 2 sku 1 refl in
-    let taken : _≡_ {A = ℕ} 12 0 = edits .is-taken 0 b ten (editable (edits .list)) in
+    let taken : _≡_ {A = ℕ} 12 0 = ap (λ (t : Told). t .number) (edits .is-taken 0 b ten (editable (edits .list))) in
     omega (arith, taken)

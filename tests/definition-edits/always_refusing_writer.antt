@@ -1,10 +1,11 @@
 -- Writing is false where every write is refused: VPD with no field is writable into one byte, and is refused.
 use Prim.Native.Nat.{ℕ}
-use mathlib.Core.Path.{_≡_}
+use mathlib.Core.Path.{_≡_, ap}
 use mathlib.Core.List.{[], _∷_}
 use native.Mathlib.Omega.{arith}
 use Rattle.layout.specs.declared.Format.the-variants.{Vpd}
 use Rattle.laws.specs.Grammar.{none}
+use Rattle.layout.specs.Calls.{Told}
 use Rattle.promises.specs.Words.{vpd}
 use Rattle.promises.specs.Writing.{Writable, Writing}
 use Rattle.promises.proofs.Instances.{computed}
@@ -29,5 +30,5 @@ writable =
 pub false : Writing → ⊥
 unfolding computed
 false w =
-    let taken : _≡_ {A = ℕ} 12 0 = w .is-taken 2 2 [] [] (0x07 ∷ []) writable in
+    let taken : _≡_ {A = ℕ} 12 0 = ap (λ (t : Told). t .number) (w .is-taken 2 2 [] [] (0x07 ∷ []) writable) in
     omega (arith, taken)

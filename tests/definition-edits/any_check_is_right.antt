@@ -9,7 +9,7 @@ use Rattle.layout.specs.declared.Format.{Format}
 use Rattle.layout.specs.declared.Format.the-variants.{Tiny}
 use Rattle.layout.specs.Walk.{Content}
 use Rattle.laws.specs.Grammar.{Published}
-use Rattle.promises.specs.Words.{Numbered, tiny, Serves}
+use Rattle.promises.specs.Words.{FormatNumber, tiny, Serves}
 use Rattle.promises.specs.PublishedRules.{OfGrammar, PublishedRules}
 use Rattle.promises.proofs.Instances.{computed}
 
@@ -23,7 +23,7 @@ unfolding computed
 refuted [] rest is = omega (arith, ap (λ (l : List ℕ). getD l 3 0) is)
 refuted (b ∷ bs) rest is = omega (arith, ap (λ (l : List ℕ). getD l 2 0) is)
 
-unpublished : (format : Format) (cs : List Content) → Numbered 3 format → Published format 1 image cs → ⊥
+unpublished : (format : Format) (cs : List Content) → FormatNumber 3 format → Published format 1 image cs → ⊥
 unfolding computed
 unpublished Tiny cs tiny p =
     refuted (p .entries) (p .rest)

@@ -13,4 +13,4 @@ refuted same = omega (arith, same)
 
 pub false : FramesAlike → ⊥
 unfolding computed
-false alike = refuted (ap (λ (t : Told). t .place) (alike 2 1 2 [] (omega arith, omega arith) (omega arith, omega arith) refl))
+false frames = refuted (ap (λ (t : Told). t .place) (frames .alike 2 1 2 [] (omega arith, omega arith) (omega arith, omega arith) refl))

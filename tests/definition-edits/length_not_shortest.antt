@@ -8,7 +8,7 @@ use Rattle.layout.specs.declared.Field.{Field}
 use Rattle.layout.specs.declared.Format.{Format}
 use Rattle.layout.specs.declared.Format.the-variants.{Vpd}
 use Rattle.layout.specs.Bytes.{partAt}
-use Rattle.promises.specs.Words.{Numbered, vpd, Serves}
+use Rattle.promises.specs.Words.{FormatNumber, vpd, Serves}
 use Rattle.promises.specs.RoundTrip.{fieldSays}
 use Rattle.promises.specs.Written.{entriesSize, headerSize, endSize}
 use Rattle.promises.specs.Writing.{Wrote, Writing}
@@ -20,7 +20,7 @@ fields = record { code = 1; key = partAt 0 1; value = partAt 1 1 } ∷ []
 abbrev values : List ℕ
 values = 0x41 ∷ 0x42 ∷ []
 
-refuted : (format : Format) → Numbered 2 format → 8 ≡ headerSize format + entriesSize format (map (fieldSays 2 values) fields) + endSize format → ⊥
+refuted : (format : Format) → FormatNumber 2 format → 8 ≡ headerSize format + entriesSize format (map (fieldSays 2 values) fields) + endSize format → ⊥
 unfolding computed
 refuted Vpd vpd size = omega (arith, size)
 

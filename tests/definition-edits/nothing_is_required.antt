@@ -6,7 +6,7 @@ use Rattle.layout.specs.declared.Format.{Format}
 use Rattle.layout.specs.declared.Format.the-variants.{Fboss}
 use Rattle.layout.specs.Walk.{Content}
 use Rattle.laws.specs.Grammar.{Each, also, Among, Published}
-use Rattle.promises.specs.Words.{Numbered, fboss, Serves}
+use Rattle.promises.specs.Words.{FormatNumber, fboss, Serves}
 use Rattle.promises.specs.PublishedRules.{OfGrammar, PublishedRules}
 use Rattle.promises.proofs.Instances.{computed, the-reading}
 
@@ -16,7 +16,7 @@ image = 0xFB ∷ 0xFB ∷ 0x05 ∷ 0xFF ∷ 0xFA ∷ 0x02 ∷ 0x7D ∷ 0xE4 ∷ 
 none-among : Among 1 [] → ⊥
 none-among = elim [ ]
 
-refuted : (format : Format) → Numbered 1 format → Published format 1 image [] → ⊥
+refuted : (format : Format) → FormatNumber 1 format → Published format 1 image [] → ⊥
 unfolding computed
 refuted Fboss fboss p = first (p .required)
   where
