@@ -1,5 +1,7 @@
 -- The published rules as a grammar: which bytes an image of each format is made of (01, "FBOSS v5", "VPD 2.0", "Tiny version 2").
--- Nothing here reads: a list of bytes is made so, or it is not.
+-- Nothing here reads: a list of bytes is made so, or it is not. Said apart from the reader's definitions: what opens an entry, which bytes say a length, what closes the entries, and that entries
+-- stand one after another without gaps. Shared with them: the header, the check and what may follow an entry (`Shape`), the names and rules (`names`, `readerRule`, `same`), what is required, and the limit.
+-- Those are said apart in crates/promises/specs: Names, Rules, Written (header and check as they are written), Writing (what comes again, what is required), Asked (the limit).
 -- Assumes nothing.
 use Prim.Native.Nat.{ℕ, zero, suc, _+_, _*_, _-_, _/_, _≤_, _<_}
 use mathlib.Core.Path.{_≡_}

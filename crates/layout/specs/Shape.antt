@@ -61,7 +61,7 @@ pub record Shape : Type 0 where
   -- a named entry's rule on its key: the reader's and the writer's are two, though 01 has them equal
   pub readerKey : ℕ → List ℕ → Bool
   pub writerKey : ℕ → List ℕ → Bool
-  -- a named entry's rule on its value, of a length that its frame or the next rule allows; and on the length of a value that is written
+  -- a named entry's rule on its value, which is asked only where the value's length is right: by its frame in reading, by the second rule in writing
   pub valueRule : ℕ → List ℕ → Bool
   pub lengthRule : ℕ → ℕ → Bool
   -- the reading of a named entry's value
