@@ -54,8 +54,8 @@ cases =
     ∷ alike 3 (hex "56 02 04") (refuses 5 2)
     ∷ alike 3 (hex "56 02 05 6F") (refuses 5 2)
     ∷ sweeps 256 (λ n. checking 3 1 (0x56 ∷ 0x02 ∷ n ∷ hex "00 00 00")) 5 (run 0 3 ++ run 7 255)
-    ∷ sweeps 256 (λ n. checking 3 1 (0x56 ∷ 0x02 ∷ n ∷ hex "00 00 00")) 10 (4 ∷ [])
-    ∷ sweeps 256 (λ n. checking 3 1 (0x56 ∷ 0x02 ∷ n ∷ hex "00 00 00")) 6 (5 ∷ 6 ∷ [])
+    ∷ sweeps 10 (λ n. checking 3 1 (0x56 ∷ 0x02 ∷ n ∷ hex "00 00 00")) 10 (4 ∷ [])
+    ∷ sweeps 10 (λ n. checking 3 1 (0x56 ∷ 0x02 ∷ n ∷ hex "00 00 00")) 6 (5 ∷ 6 ∷ [])
     -- the longest: L 255, a pool of 249 bytes; of 250 there is none in an image of 255 bytes
     ∷ finds 3 1 (hex "56 02 FF 01 F9" ++ replicate 249 0xC1 ++ hex "13") 0 (Found (bare 0x01 769 3 5 249 Plain))
     ∷ alike 3 (hex "56 02 FF 01 FA" ++ replicate 250 0xC1) (refuses 5 3)
