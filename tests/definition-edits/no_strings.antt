@@ -1,4 +1,4 @@
--- StringRule is false of these definitions. No pool has a string. The pool with the one byte C1 has a string.
+-- StringRule is false of these definitions. No pool has a string. A pool of the one byte C1 must have a string, and string 0 is 15.
 use Prim.Native.Nat.{ℕ, _<_}
 use mathlib.Core.Path.{_≡_, refl, ap, subst}
 use mathlib.Core.List.{List, [], _∷_}
