@@ -112,8 +112,9 @@ cases =
     ∷ writes 2 2 (keyedField 0x01 0 1 0 128 ∷ []) (replicate 128 0x41) (replicate 134 7) (Wrote 134) (hex "01 01 41 81 00" ++ replicate 128 0x41 ++ hex "00")
     ∷ writes 2 1 (keyedField 0x01 0 128 0 0 ∷ []) (replicate 128 0x41) (replicate 133 7) (Wrote 133) (hex "01 81 00" ++ replicate 128 0x41 ++ hex "00 00")
     ∷ writes 2 1 (keyedField 0x01 0 1 0 127 ∷ []) (replicate 127 0x41) (replicate 132 7) (Wrote 132) (hex "01 01 41 7F" ++ replicate 127 0x41 ++ hex "00")
-    -- the longest image, in the longest output: 65,536 bytes
-    ∷ numbers (writingLong 65529 65536) 0
+    -- a value of 300 bytes: an image of 306, in as many bytes and in one less
+    ∷ numbers (writingLong 300 306) 0
+    ∷ numbers (writingLong 300 305) 12
     -- ---- FBOSS text of 255 bytes is written, of 256 is 7
     ∷ unwrites 1 1 (field 1 0 255 ∷ []) (replicate 255 0x41) 0 (refusal 11 0)
     ∷ unwrites 1 1 (field 1 0 256 ∷ []) (replicate 256 0x41) 0 (refusal 7 0)
