@@ -1,8 +1,8 @@
 #!/usr/bin/env bash
 # Wrong definitions, and what refuses each of them:  tests/definition-edits.sh [NAME...], all of them where none is named.
 # Every edit of tests/definition-edits makes one wrong in a copy, where it must still be a definition.
-# Beside NAME.edit may stand NAME.antt. It proves `pub false : STATEMENT → ⊥` over the edited definitions, STATEMENT being one that crates/promises proves of
-# the right ones: so it is a promise that refuses the edit, and not a proof that no longer fits. It may use Instances.antt; the copy has the definitions and
+# Beside NAME.edit may stand NAME.proof. It proves `pub false : STATEMENT → ⊥` over the edited definitions, STATEMENT being one that crates/promises proves of
+# the right ones: so it is a promise that refuses the edit, and not a proof that no longer fits. It may use Instances.proof; the copy has the definitions and
 # the statements, and no other proof. An edit that has no such file is refused where the laws or the promises are no longer proved. The worked cases are left
 # out of every copy. RT_JOBS edits are tried at a time, 2 where it is not set.
 set -euo pipefail
@@ -35,7 +35,7 @@ verdict() {
     echo "definition edit $1: $3"
 }
 
-# the statement that NAME.antt says is false: it must be one of the promises, and the promises' own
+# the statement that NAME.proof says is false: it must be one of the promises, and the promises' own
 statement() {
     local said
     said=$(sed -n 's/^pub false : \([A-Z][A-Za-z]*\) → ⊥$/\1/p' "$1")
@@ -54,12 +54,12 @@ try() {
         verdict "$label" failed 'BAD EDIT: it edits more than the definitions'
         return
     fi
-    if [ -f "$edits/$label.antt" ]; then
-        said=$(statement "$edits/$label.antt") || { verdict "$label" failed "BAD REFUTATION: $said"; return; }
+    if [ -f "$edits/$label.proof" ]; then
+        said=$(statement "$edits/$label.proof") || { verdict "$label" failed "BAD REFUTATION: $said"; return; }
         cp -R "$room/definitions" "$copy"
         mkdir "$copy/crates/promises/proofs"
-        cp "$edits/Instances.antt" "$copy/crates/promises/proofs/Instances.antt"
-        cp "$edits/$label.antt" "$copy/crates/promises/proofs/False.antt"
+        cp "$edits/Instances.proof" "$copy/crates/promises/proofs/Instances.antt"
+        cp "$edits/$label.proof" "$copy/crates/promises/proofs/False.antt"
         printf 'pub mod Instances\npub mod False\n' >"$copy/crates/promises/proofs/Lib.antt"
     else
         said=''
@@ -84,10 +84,10 @@ all='' unshown='' stray=''
 if [ $# -eq 0 ]; then all=$(echo "$edits"/*.edit); else for label in "$@"; do all="$all $edits/$label.edit"; done; fi
 for edit in $all; do
     [ -f "$edit" ] || { echo "definition edits: there is no $edit"; exit 1; }
-    [ -f "${edit%.edit}.antt" ] || unshown="$unshown $edit"
+    [ -f "${edit%.edit}.proof" ] || unshown="$unshown $edit"
 done
-for module in "$edits"/*.antt; do
-    [ "$module" = "$edits/Instances.antt" ] || [ -f "${module%.antt}.edit" ] || stray="$stray $module"
+for module in "$edits"/*.proof; do
+    [ "$module" = "$edits/Instances.proof" ] || [ -f "${module%.proof}.edit" ] || stray="$stray $module"
 done
 [ -z "$stray" ] || { echo "definition edits: no edit for$stray"; exit 1; }
 base definitions crc
