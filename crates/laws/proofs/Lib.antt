@@ -20,3 +20,4 @@ pub mod Tiny
 pub mod Vpd
 pub mod Walking
 pub mod Writing
+pub mod Strings

@@ -187,10 +187,6 @@ pass-first f image start end le d = go (walked f image start end) refl d
         record { pass = pass-begins (laws f) image start end rs (x .rest) (x .joined) (decoded-ends (laws f) x) (x .frames) le; past = refl; todo = refl }
     go (stop k q) e d = absurd d
 
-pub pass-starts : (f : Format) (image : List ℕ) (start end : ℕ) → start ≤ end → IsDone (walked f image start end) →
-    Passing (shape f) (grammar f) image start end (rawsIn (walked f image start end)) start false
-pass-starts f image start end le d = pass-first f image start end le d .pass
-
 -- the entries before the place of a pass are those that it passed
 before-flat : {S : Shape} {G : Grammar} (L : Laws S G) (b : Bool) (past todo : List Raw) (s : ℕ) → Frames S G b (past ++ todo) → before (past ++ todo) s (s + length (flat past)) ≡ past
 unfolding before

@@ -3,31 +3,26 @@
 use Prim.Native.Nat.{ℕ, zero, suc, _+_, _-_, _≤_}
 use mathlib.Core.Path.{_≡_, refl, ap, sym, _∙_}
 use mathlib.Core.List.{List, [], _∷_, _++_, map}
-use mathlib.Core.Bool.{Bool, true, false, _||_}
 use native.Mathlib.Omega.{arith}
 use native.Mathlib.Nat.{zero-add, add-zero, zero-sub, sub-zero, suc-sub-suc}
 use lib.ListN.{length, take, replicate}
 use lib.Seq.{take-nil}
-use lib.Dec.{ltb}
-use borrow.Author.Tests.{le-ltb, lt-leb}
-use Rattle.layout.specs.declared.Format.{Format}
-use Rattle.layout.specs.declared.Chosen.{Chosen}
-use Rattle.layout.specs.declared.Chosen.the-variants.{Known, Unknown}
+use borrow.Author.Tests.{lt-leb}
 use Rattle.layout.specs.declared.Entry.{Entry}
 use Rattle.layout.specs.declared.Refusal.{Refusal}
 use Rattle.layout.specs.declared.Lookup.{Lookup}
 use Rattle.layout.specs.declared.Lookup.the-variants.{Found, Missing}
 use Rattle.layout.specs.declared.Located.{Located}
 use Rattle.layout.specs.declared.Located.the-variants.{At, Nowhere}
-use Rattle.layout.specs.Bytes.{if, all, refusal}
-use Rattle.layout.specs.Editions.{shape, chosen}
-use Rattle.layout.specs.Read.{limit, refused, bad, readAs, readChosen, readImage}
+use Rattle.layout.specs.Bytes.{all, refusal}
+use Rattle.layout.specs.Editions.{shape}
+use Rattle.layout.specs.Read.{limit, Read, refused, readImage}
 use Rattle.layout.specs.Calls.{Told, toldRefusal, entriesOf, checkImage, listEntries, nth, entryAt, valueAt, stringAt, stepFrom}
 use Rattle.layout.specs.Write.{refuse}
-use Rattle.layout.specs.Edit.{editRead, editChosen, editEntry}
+use Rattle.layout.specs.Edit.{editRead, editEntry}
 use Rattle.laws.specs.Contents.{said}
 use Rattle.laws.proofs.Records.{entries-count}
-use Rattle.laws.proofs.Calls.{Found as FoundImage, check-found}
+use Rattle.laws.proofs.Calls.{Found as FoundImage, check-found, edit-read}
 use Rattle.promises.specs.Words.{Item, here, there}
 use Rattle.promises.specs.Lookups.{toldBySteps, numberAfter, given, OneByOne, AsChecked, StepRule, Twin, Lookups}
 use Rattle.promises.specs.Numbers.{imageNumbers}
@@ -128,17 +123,7 @@ one-by-one f e image n x =
 -- an edit of it is refused alike, where its output is not too long
 edit-refused : (f e : ℕ) (image : List ℕ) (r : Refusal) → readImage f e image ≡ refused r → (i : ℕ) (v out : List ℕ) → length out ≤ limit →
     editEntry f e image i v out ≡ refuse r out
-unfolding readImage editEntry
-edit-refused f e image r q i v out le = choose (chosen f e) q
-  where
-    bounded : (g : Format) (b : Bool) → if b (λ _. bad 2 0) (λ _. readAs g e image) ≡ refused r →
-        if (b || ltb limit (length out)) (λ _. refuse (refusal 2 0) out) (λ _. editRead (readAs g e image) e i v out) ≡ refuse r out
-    bounded g true q = let s : refusal 2 0 ≡ r = cc in rw s
-    bounded g false q = rw (le-ltb limit (length out) le, q)
-
-    choose : (x : Chosen) → readChosen x e image ≡ refused r → editChosen x e image i v out ≡ refuse r out
-    choose (Known g) q = bounded g (ltb limit (length image)) q
-    choose (Unknown n) q = let s : refusal n 0 ≡ r = cc in rw s
+edit-refused f e image r q i v out le = edit-read f e image i v out le ∙ ap (λ (x : Read). editRead x e i v out) q
 
 as-checked : (f e : ℕ) (image : List ℕ) (r : Refusal) → readImage f e image ≡ refused r → AsChecked f e image
 unfolding checkImage listEntries entryAt valueAt

@@ -26,19 +26,12 @@ use Rattle.laws.proofs.Records.{entries-count}
 use Rattle.laws.proofs.Calls.{Reading, Found, check-found}
 use Rattle.promises.specs.Words.{FormatNumber, fboss, vpd, tiny as tinyNumber, Refuses, Item, here, there, tellsCheck, tellsString}
 use Rattle.promises.specs.Strings.{Strings, tail, string, PoolStrings, TinyStrings, StringRule}
+use Rattle.laws.proofs.Lists.{each-append}
+use Rattle.laws.proofs.Strings.{goes}
 use Rattle.promises.proofs.Accepting.{lists, records-say}
 use Rattle.promises.proofs.Telling.{chosen-serves, counts-accepted, check-refused}
 
 -- ---- bytes cut into strings
-
-goes-on : (b : ℕ) (bs : List ℕ) (p n k : ℕ) → b < 128 → stringIn (b ∷ bs) p n k ≡ stringIn bs p (n + 1) k
-unfolding stringIn
-goes-on b bs p n zero lt = rw (lt-ltb b 128 lt)
-goes-on b bs p n (suc k) lt = rw (lt-ltb b 128 lt)
-
-each-append : {A : Type 0} {P : A → Type 0} {xs ys : List A} → Each P xs → Each P ys → Each P (xs ++ ys)
-each-append none q = q
-each-append (also p ps) q = also p (each-append ps q)
 
 no-item : {A B : Type 0} {n : ℕ} {x : A} → Item [] n x → B
 no-item it = elim it [ ]
@@ -57,8 +50,8 @@ cut-on b bs front p low c =
     record {
       parts = c .parts;
       cut = rw (append-assoc front (b ∷ []) bs) at (c .cut);
-      found = λ k x it. goes-on b bs p (length front) k low ∙ (rw one at (c .found k x it));
-      past = λ k le. goes-on b bs p (length front) k low ∙ (rw one at (c .past k le));
+      found = λ k x it. goes b bs p (length front) k low ∙ (rw one at (c .found k x it));
+      past = λ k le. goes b bs p (length front) k low ∙ (rw one at (c .past k le));
     }
 
 -- and ends with one whose top bit is on
@@ -82,7 +75,7 @@ unfolding stringIn
 cut-of [] front p low = record { parts = []; cut = rw append-nil (tail low); found = λ k x it. no-item it; past = λ k le. refl }
 cut-of (b ∷ bs) front p low =
     go (ltb b 128) refl
-    (λ lt. cut-on b bs front p lt (cut-of bs (front ++ (b ∷ [])) p (each-append low (also lt none))))
+    (λ lt. cut-on b bs front p lt (cut-of bs (front ++ (b ∷ [])) p (each-append front (b ∷ []) low (also lt none))))
     (λ le. cut-after b bs front p low le (cut-of bs [] (p + (length front + 1)) none))
   where
     go : (t : Bool) → ltb b 128 ≡ t → (b < 128 → Cut p front (b ∷ bs)) → (128 ≤ b → Cut p front (b ∷ bs)) → Cut p front (b ∷ bs)

@@ -7,24 +7,11 @@ use native.Mathlib.Omega.{arith}
 use native.Mathlib.Numerals.{add-one}
 use lib.ListN.{length, getD, drop, drop-of-length-le}
 use lib.Seq.{drop-cons}
-use borrow.Author.Tests.{lt-ltb, le-ltb}
 use Rattle.layout.specs.declared.Located.{Located}
 use Rattle.layout.specs.declared.Located.the-variants.{At}
 use Rattle.layout.specs.Bytes.{partAt}
 use Rattle.layout.specs.Calls.{noString, stringIn}
-
-goes : (b : ℕ) (bs : List ℕ) (p n left : ℕ) → b < 128 → stringIn (b ∷ bs) p n left ≡ stringIn bs p (n + 1) left
-unfolding stringIn
-goes b bs p n zero lt = rw (lt-ltb b 128 lt)
-goes b bs p n (suc k) lt = rw (lt-ltb b 128 lt)
-
-ends : (b : ℕ) (bs : List ℕ) (p n left : ℕ) → 128 ≤ b → left ≡ 0 → stringIn (b ∷ bs) p n left ≡ At (partAt p (n + 1))
-unfolding stringIn
-ends b bs p n left le z = rw (z, le-ltb b 128 le)
-
-passes : (b : ℕ) (bs : List ℕ) (p n left k : ℕ) → 128 ≤ b → left ≡ suc k → stringIn (b ∷ bs) p n left ≡ stringIn bs (p + n + 1) 0 k
-unfolding stringIn
-passes b bs p n left k le z = rw (z, le-ltb b 128 le)
+use Rattle.laws.proofs.Strings.{goes, ends, passes}
 
 -- the string that begins at `first`, when byte i of the pool is next
 abbrev pub stringFrom : List ℕ → ℕ → ℕ → ℕ → ℕ → Located
