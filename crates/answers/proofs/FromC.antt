@@ -1,14 +1,14 @@
 -- Demands 2 and 3, the numbers of each call and the layout of fields, as C sees them.
 -- Assumes nothing.
-use Prim.Native.Nat.{ℕ, zero, suc, _+_, _*_, _-_, _/_, _%_, _≤_, _<_}
-use mathlib.Core.Path.{_≡_, refl, ap, ap₂, sym, _∙_}
+use Prim.Native.Nat.{ℕ, zero, suc, _+_, _*_, _-_, _/_, _≤_, _<_}
+use mathlib.Core.Path.{_≡_, refl, ap, sym, _∙_}
 use mathlib.Core.List.{List, [], _∷_, _++_, append-assoc, map}
 use mathlib.Core.Bool.{Bool, true, false}
 use native.Mathlib.Omega.{arith}
-use lib.ListN.{length, getD, take, drop, replicate, length-append, length-replicate, List·getD-append}
+use lib.ListN.{length, getD, take, replicate, length-append, length-replicate, List·getD-append}
 use lib.Seq.{drop-at, getD-take, getD-append-add}
-use lib.Dec.{ltb, leb, eqb}
-use borrow.Author.Tests.{eqb-true, eqb-false, le-ltb, lt-ltb}
+use lib.Dec.{leb, eqb}
+use borrow.Author.Tests.{eqb-true, le-ltb, lt-ltb}
 use Rattle.layout.specs.declared.Format.{Format}
 use Rattle.layout.specs.declared.Entry.{Entry}
 use Rattle.layout.specs.declared.Field.{Field}
@@ -21,19 +21,18 @@ use Rattle.layout.specs.declared.Made.{Made}
 use Rattle.layout.specs.declared.Made.the-variants.{Wrote}
 use Rattle.layout.specs.declared.Lookup.{Lookup}
 use Rattle.layout.specs.declared.Lookup.the-variants.{Found, Missing}
-use Rattle.layout.specs.Bytes.{if, between, all, oneOf, part, partAt, refusal}
+use Rattle.layout.specs.Bytes.{if, between, all, oneOf, part, partAt}
 use Rattle.layout.specs.Walk.{Content}
-use Rattle.layout.specs.Calls.{Told, told, toldRefusal, toldChecked, toldLookup, toldReading, checkImage, entryAt, moved, Step, stepFrom}
-use Rattle.layout.specs.Write.{word, fieldAt, fields, fieldsIn, Outcome, writeImage, toldMade}
+use Rattle.layout.specs.Calls.{Told, toldRefusal, toldChecked, toldLookup, toldReading, checkImage, entryAt, moved, stepFrom}
+use Rattle.layout.specs.Write.{word, fieldAt, fields, fieldsIn, writeImage, toldMade}
 use Rattle.layout.specs.Edit.{editEntry}
 use Rattle.records.specs.Packed.{packed}
 use Rattle.records.specs.Words.{wordsBytes, readingWords, recordWords}
-use Rattle.records.specs.Exports.{Given, recorded, entryCall, listCall, walkFormat, walkEdition, walkEntry, stepCall, checkCall, writeCall, editCall}
+use Rattle.records.specs.Exports.{recorded, entryCall, listCall, walkFormat, walkEdition, walkEntry, stepCall, checkCall, writeCall, editCall}
 use Rattle.laws.specs.Contents.{said, replaced}
 use Rattle.laws.specs.Grammar.{Each, none, also as andAlso}
-use Rattle.promises.specs.Words.{FormatNumber, fboss, vpd, tiny, KnownEdition, Counts, Item, here, there, Lists, Reads, tellsCheck, tellsWrite, tellsEdit, tellsEntry}
-use Rattle.promises.specs.Names.{Named}
-use Rattle.promises.specs.Kinds.{Means, Marked, MarkedList}
+use Rattle.promises.specs.Words.{FormatNumber, fboss, vpd, tiny, KnownEdition, Counts, Item, here, there, tellsCheck, tellsWrite, tellsEdit}
+use Rattle.promises.specs.Kinds.{Marked}
 use Rattle.promises.specs.RoundTrip.{fieldSays}
 use Rattle.promises.specs.OlderReads.{Alike, AllAlike, also}
 use Rattle.promises.specs.Numbers.{Gives, taken, refused, imageNumbers, writeNumbers}
@@ -50,7 +49,7 @@ use Rattle.promises.proofs.RoundTrip.{round-trip}
 use Rattle.promises.proofs.OlderReads.{older-reads}
 use Rattle.promises.proofs.OlderEdits.{older-edits}
 use Rattle.answers.specs.Whole.{numberOf, countOf}
-use Rattle.answers.specs.FromC.{Bytes, OneOf, NumbersFromC, FieldsFromC, fieldWords, fieldsBytes, recordWord, recordSays, ReadFromC, KindFromC, AcceptedFromC, WrittenFromC, SameRecord, OlderFromC, EditedFromC, FromC}
+use Rattle.answers.specs.FromC.{Bytes, OneOf, NumbersFromC, FieldsFromC, fieldWords, fieldsBytes, recordWord, recordSays, KindFromC, AcceptedFromC, WrittenFromC, SameRecord, OlderFromC, FromC}
 use Rattle.answers.proofs.Records.{words-back}
 use Rattle.answers.proofs.Lent.{packed-taken, list-lent, stepped-recorded}
 use Rattle.answers.proofs.Packing.{whole-told}

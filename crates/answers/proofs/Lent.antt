@@ -1,12 +1,12 @@
 -- What the exports leave in lent memory.
 -- Assumes nothing.
-use Prim.Native.Nat.{ℕ, zero, suc, _+_, _*_, _/_, _%_, _≤_, _<_}
+use Prim.Native.Nat.{ℕ, zero, suc, _+_, _*_, _/_, _≤_, _<_}
 use mathlib.Core.Path.{_≡_, refl, ap, sym, _∙_}
 use mathlib.Core.List.{List, [], _∷_, _++_, append-assoc}
 use mathlib.Core.Bool.{Bool, true, false}
 use native.Mathlib.Omega.{arith}
-use lib.ListN.{length, getD, take, drop, length-append, length-take, length-drop, List·getD-append}
-use lib.Seq.{take-at, drop-at, drop-append-add, getD-append-add, getD-take, length-take-le}
+use lib.ListN.{length, getD, take, drop, length-append, length-drop, List·getD-append}
+use lib.Seq.{take-at, drop-at, drop-append-add, getD-take, length-take-le}
 use lib.Dec.{leb}
 use borrow.Author.Tests.{leb-true, le-leb, lt-leb}
 use Rattle.layout.specs.declared.Format.{Format}
@@ -19,14 +19,13 @@ use Rattle.layout.specs.Editions.{shape, chosen}
 use Rattle.layout.specs.declared.Checked.the-variants.{Accepted, Refused}
 use Rattle.layout.specs.Walk.{Raw}
 use Rattle.layout.specs.Read.{limit, Read, accepted, refused, readImage}
-use Rattle.layout.specs.Calls.{Told, told, toldRefusal, toldChecked, toldLookup, checkedBy, checkImage, Listed, fill, listedBy, listEntries, entriesOf, entriesBy, entriesIn, nth, foundBy, entryAt, moved, Step, stepFrom}
+use Rattle.layout.specs.Calls.{Told, told, toldRefusal, toldChecked, toldLookup, checkedBy, checkImage, Listed, fill, listedBy, listEntries, entriesOf, entriesBy, entriesIn, nth, foundBy, entryAt, moved, stepFrom}
 use Rattle.layout.specs.Write.{word, fieldsIn}
 use Rattle.records.specs.Packed.{packed}
 use Rattle.records.specs.Words.{wordBytes, wordsBytes, recordBytes, recordsBytes}
-use Rattle.records.specs.Exports.{Given, kept, recorded, entryCall, recordedAll, recordedBy, listCall, writeCall, editCall, walkFormat, walkEdition, walkEntry, walkAt, steppedTo, stepCall}
+use Rattle.records.specs.Exports.{Given, kept, recorded, entryCall, recordedAll, recordedBy, listCall, walkFormat, walkEdition, walkEntry, walkAt, steppedTo, stepCall}
 use Rattle.records.proofs.Words.{length-record, length-records}
-use Rattle.laws.proofs.Frames.{part-between}
-use Rattle.promises.specs.Words.{Counts, IsRefused, Item, here, there, Lists, tellsCheck, tellsList, tellsEntry, tellsWrite, tellsEdit}
+use Rattle.promises.specs.Words.{Counts, IsRefused, Item, here, there, Lists, tellsList, tellsWrite, tellsEdit}
 use Rattle.promises.specs.Numbers.{imageNumbers}
 use Rattle.promises.specs.Lookups.{given}
 use Rattle.answers.specs.Whole.{numberOf}
@@ -36,7 +35,7 @@ use Rattle.promises.proofs.Telling.{counts-accepted}
 use Rattle.promises.proofs.Unchanged.{unchanged}
 use Rattle.answers.proofs.Whole.{whole-reads}
 use Rattle.answers.proofs.Records.{word-back, word-past}
-use Rattle.answers.specs.Lent.{RefusedAnswer, UnchangedLent, Answers, ListLent, EntryLent, StepLent, Lent}
+use Rattle.answers.specs.Lent.{RefusedAnswer, Answers, ListLent, Lent}
 
 -- ---- numbers
 

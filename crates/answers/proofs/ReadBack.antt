@@ -1,7 +1,7 @@
 -- How C reads a list: the words of record j are those of the list's record j, and say what it says.
 -- Assumes nothing.
 use Prim.Native.Nat.{ℕ, zero, suc, _+_, _*_, _/_, _≤_, _<_}
-use mathlib.Core.Path.{_≡_, refl, ap, ap₂, sym, _∙_}
+use mathlib.Core.Path.{_≡_, refl, ap, sym, _∙_}
 use mathlib.Core.List.{List, [], _∷_, map}
 use native.Mathlib.Omega.{arith}
 use lib.ListN.{length, getD, replicate, length-replicate}
@@ -9,22 +9,21 @@ use Rattle.layout.specs.declared.Entry.{Entry}
 use Rattle.layout.specs.declared.Reading.the-variants.{Plain}
 use Rattle.layout.specs.Bytes.{part, place, partAt}
 use Rattle.layout.specs.Walk.{Content}
-use Rattle.layout.specs.Read.{accepted, readImage}
-use Rattle.layout.specs.Calls.{Told, told, entriesBy, entriesIn, checkImage}
+use Rattle.layout.specs.Read.{accepted}
+use Rattle.layout.specs.Calls.{Told, entriesIn}
 use Rattle.layout.specs.Write.{word}
 use Rattle.laws.specs.Contents.{said}
-use Rattle.laws.specs.Grammar.{Each, none, also}
+use Rattle.laws.specs.Grammar.{Each, also}
 use Rattle.laws.proofs.Passes.{part-byte}
 use Rattle.records.specs.Packed.{packed}
-use Rattle.records.specs.Words.{recordWords, recordBytes}
-use Rattle.records.specs.Exports.{Given, checkCall, listCall}
-use Rattle.promises.specs.Words.{Counts, Item, here, there, Lists, Reads, tellsCheck, tellsList}
-use Rattle.answers.specs.Whole.{numberOf, countOf}
+use Rattle.records.specs.Words.{recordWords}
+use Rattle.records.specs.Exports.{checkCall, listCall}
+use Rattle.promises.specs.Words.{Counts, Item, here, there, Lists, Reads, tellsCheck}
 use Rattle.answers.specs.Records.{WholeRecord}
 use Rattle.answers.specs.FromC.{Bytes, recordWord, recordSays, ReadFromC}
 use Rattle.answers.proofs.Whole.{whole-reads}
 use Rattle.answers.proofs.Records.{whole-records}
-use Rattle.answers.proofs.Lent.{packed-taken, Listing, lists-read, list-lent}
+use Rattle.answers.proofs.Lent.{packed-taken, lists-read, list-lent}
 
 -- ---- items
 

@@ -16,7 +16,7 @@ use Rattle.layout.specs.Write.{word, fieldsIn}
 use Rattle.laws.specs.Contents.{replaced}
 use Rattle.laws.specs.Grammar.{Each, Published}
 use Rattle.records.specs.Words.{wordsBytes}
-use Rattle.records.specs.Exports.{Given, checkCall, valueCall, stringCall, entryCall, listCall, stepCall, writeCall, editCall}
+use Rattle.records.specs.Exports.{checkCall, valueCall, stringCall, entryCall, listCall, stepCall, writeCall, editCall}
 use Rattle.promises.specs.Words.{KnownEdition, Serves, Item}
 use Rattle.promises.specs.Names.{Named}
 use Rattle.promises.specs.Kinds.{Means}

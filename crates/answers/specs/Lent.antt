@@ -10,7 +10,7 @@ use Rattle.layout.specs.Bytes.{part, refusal}
 use Rattle.layout.specs.Calls.{Told, toldRefusal}
 use Rattle.records.specs.Packed.{packed}
 use Rattle.records.specs.Words.{recordBytes}
-use Rattle.records.specs.Exports.{Given, entryCall, listCall, writeCall, editCall, walkFormat, walkEdition, walkEntry, stepCall}
+use Rattle.records.specs.Exports.{entryCall, listCall, writeCall, editCall, walkFormat, walkEdition, walkEntry, stepCall}
 use Rattle.promises.specs.Words.{IsRefused, Item, Lists, tellsList, tellsEntry}
 use Rattle.promises.specs.Lookups.{given}
 use Rattle.answers.specs.Whole.{numberOf}

@@ -7,7 +7,7 @@ use lib.ListN.{length}
 use Rattle.layout.specs.declared.Field.{Field}
 use Rattle.layout.specs.Bytes.{partAt, refusal}
 use Rattle.layout.specs.Calls.{Told, told, toldRefusal, toldChecked, toldLookup, toldLocated, checkImage, entriesIn, entryAt, valueAt, stringAt}
-use Rattle.layout.specs.Write.{fieldsIn, Outcome, writeImage, toldMade}
+use Rattle.layout.specs.Write.{fieldsIn, writeImage, toldMade}
 use Rattle.layout.specs.Edit.{editEntry}
 use Rattle.records.specs.Packed.{packed}
 

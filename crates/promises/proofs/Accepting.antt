@@ -1,21 +1,17 @@
 -- What an accepted image's calls answer.
 -- Assumes nothing.
-use Prim.Native.Nat.{ℕ, zero, suc, _+_, _≤_}
-use mathlib.Core.Path.{_≡_, refl, ap, sym, _∙_}
-use mathlib.Core.List.{List, [], _∷_, _++_, map}
+use Prim.Native.Nat.{ℕ}
+use mathlib.Core.Path.{_≡_, sym}
+use mathlib.Core.List.{List, map}
 use mathlib.Core.Bool.{false}
-use native.Mathlib.Omega.{arith}
-use lib.ListN.{length, drop}
+use lib.ListN.{length}
 use borrow.Author.Tests.{le-leb}
 use Rattle.layout.specs.declared.Format.{Format}
-use Rattle.layout.specs.declared.Entry.{Entry}
-use Rattle.layout.specs.Shape.{Shape}
 use Rattle.layout.specs.Editions.{shape}
-use Rattle.layout.specs.Walk.{Raw, Content, content, flat}
-use Rattle.layout.specs.Read.{Read, accepted, readImage}
+use Rattle.layout.specs.Walk.{Raw, content, flat}
+use Rattle.layout.specs.Read.{accepted}
 use Rattle.layout.specs.Calls.{entriesOf, checkImage, listEntries}
 use Rattle.laws.specs.Contents.{said}
-use Rattle.laws.proofs.Images.{Accepts}
 use Rattle.laws.proofs.Records.{records-said, entries-count}
 use Rattle.laws.proofs.Formats.{laws}
 use Rattle.laws.proofs.Calls.{Reading}

@@ -24,7 +24,7 @@ use Rattle.promises.specs.FramesAlike.{Framed, frameNumbers, ruleNumbers
 use Rattle.promises.proofs.FormatNumbers.{every}
 use Rattle.promises.proofs.Refusals.{ReadLow, ruleRefusals, ruled-low, unframed-low}
 use Rattle.promises.proofs.Telling.{edition-known, serves-chosen}
-use Rattle.promises.proofs.PublishedRules.{Walks, entries-frames, frames-entries}
+use Rattle.promises.proofs.PublishedRules.{entries-frames, frames-entries}
 
 abbrev tells : Read → Told
 tells x = toldChecked (checkedBy x)

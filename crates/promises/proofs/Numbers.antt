@@ -18,7 +18,7 @@ use Rattle.layout.specs.Bytes.{oneOf}
 use Rattle.layout.specs.Editions.{shape}
 use Rattle.layout.specs.Read.{Read, accepted, refused, readImage}
 use Rattle.layout.specs.Calls.{entriesOf, checkImage, Listed, listedBy, listEntries, entryAt, valueAt, stringAt, stepFrom, toldChecked, toldLookup, toldLocated}
-use Rattle.layout.specs.Write.{Outcome, writeImage, toldMade}
+use Rattle.layout.specs.Write.{writeImage, toldMade}
 use Rattle.layout.specs.Edit.{editEntry}
 use Rattle.laws.proofs.Choices.{either}
 use Rattle.promises.specs.Words.{tellsList}

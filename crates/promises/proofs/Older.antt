@@ -9,7 +9,6 @@ use Rattle.layout.specs.declared.Chosen.the-variants.{Known}
 use Rattle.layout.specs.Editions.{shape, knownEdition, chosen}
 use Rattle.layout.specs.Walk.{Raw, content}
 use Rattle.laws.proofs.Judging.{lawful-down}
-use Rattle.laws.proofs.Images.{Accepts}
 use Rattle.laws.proofs.Calls.{Reading, chosen-stands, stands-chosen, accepted-reading, made-reading}
 
 -- the format that one known edition has, every known edition has

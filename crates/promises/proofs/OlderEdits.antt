@@ -9,18 +9,16 @@ use Rattle.layout.specs.Shape.{Shape}
 use Rattle.layout.specs.Editions.{shape}
 use Rattle.layout.specs.Walk.{Raw, content}
 use Rattle.layout.specs.Read.{accepted}
-use Rattle.layout.specs.Write.{Outcome}
 use Rattle.layout.specs.Edit.{editEntry}
 use Rattle.laws.proofs.Judging.{lawful-replaced}
 use Rattle.laws.proofs.Editing.{editedRaws, edited-flat, edited-codes, editable-ruled, edited-frames}
-use Rattle.laws.proofs.Images.{Accepts}
 use Rattle.laws.proofs.Formats.{laws}
 use Rattle.laws.proofs.Calls.{Reading, Found, check-found, chosen-stands}
 use Rattle.promises.specs.OlderEdits.{Kept, OlderEdits}
 use Rattle.promises.proofs.Accepting.{reads}
 use Rattle.promises.proofs.Telling.{counts-accepted, counts-edited}
 use Rattle.promises.proofs.Older.{older-reading}
-use Rattle.promises.proofs.Output.{Took, took-reads}
+use Rattle.promises.proofs.Output.{took-reads}
 use Rattle.promises.proofs.Edits.{Done, edit-done, value-fits}
 
 -- two readings of an image by one edition are the same

@@ -1,17 +1,15 @@
 -- Promise 4 holds.
 -- Assumes nothing.
 use Prim.Native.Nat.{ℕ, _+_, _≤_}
-use mathlib.Core.Path.{_≡_, refl, sym, _∙_}
+use mathlib.Core.Path.{refl, sym, _∙_}
 use mathlib.Core.List.{List, [], _∷_}
 use Rattle.layout.specs.declared.Format.{Format}
-use Rattle.layout.specs.declared.Entry.{Entry}
-use Rattle.layout.specs.Shape.{Shape}
-use Rattle.layout.specs.Editions.{shape, names, kind}
+use Rattle.layout.specs.Editions.{shape, kind}
 use Rattle.layout.specs.Walk.{Raw}
 use Rattle.layout.specs.Calls.{entryOf, entriesOf}
 use Rattle.laws.specs.Contents.{said}
 use Rattle.laws.proofs.Judging.{names-up}
-use Rattle.laws.proofs.Calls.{Reading, Found, check-found}
+use Rattle.laws.proofs.Calls.{Found, check-found}
 use Rattle.promises.specs.Words.{KnownEdition}
 use Rattle.promises.specs.OlderReads.{Alike, AllAlike, none, also, Older, OlderReads}
 use Rattle.laws.proofs.Records.{entries-count}

@@ -1,8 +1,8 @@
 -- What a write and an edit leave in the output, and that it is read as what was put there.
 -- Assumes nothing.
-use Prim.Native.Nat.{ℕ, zero, suc, _+_, _-_, _≤_}
+use Prim.Native.Nat.{ℕ, _+_, _-_, _≤_}
 use mathlib.Core.Path.{_≡_, refl, ap, sym, _∙_}
-use mathlib.Core.List.{List, [], _∷_, _++_, append-nil, map}
+use mathlib.Core.List.{List, [], _++_, append-nil, map}
 use mathlib.Core.Bool.{Bool, true, false, _&&_}
 use native.Mathlib.Omega.{arith}
 use lib.ListN.{length, take, replicate, length-append, length-replicate}
@@ -20,7 +20,7 @@ use Rattle.layout.specs.Walk.{Raw, content, flat}
 use Rattle.layout.specs.Read.{limit, complete, codesOf}
 use Rattle.layout.specs.Write.{Outcome, refuse, padded, put, imageOf}
 use Rattle.laws.specs.Grammar.{grammar, Lawful}
-use Rattle.laws.proofs.Choices.{false-true, both}
+use Rattle.laws.proofs.Choices.{both}
 use Rattle.laws.proofs.Walking.{Frames}
 use Rattle.laws.proofs.Images.{imageFrom}
 use Rattle.laws.proofs.Writing.{image-made}

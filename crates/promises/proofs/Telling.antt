@@ -21,13 +21,13 @@ use Rattle.layout.specs.Bytes.{between, all}
 use Rattle.layout.specs.Editions.{knownEdition, chosen}
 use Rattle.layout.specs.Read.{Read, accepted, refused, readImage}
 use Rattle.layout.specs.Calls.{Told, toldChecked, checkedBy, checkImage}
-use Rattle.layout.specs.Write.{Outcome, writeImage, toldMade}
+use Rattle.layout.specs.Write.{writeImage, toldMade}
 use Rattle.layout.specs.Edit.{editEntry}
 use Rattle.laws.proofs.Choices.{both}
 use Rattle.laws.proofs.Calls.{Stands, one, two, three, chosen-stands, stands-chosen}
 use Rattle.promises.specs.Words.{FormatNumber, fboss, vpd, tiny, KnownEdition, Serves, Counts, IsRefused, tellsCheck, tellsWrite, tellsEdit}
 use Rattle.promises.specs.Numbers.{imageNumbers, writeNumbers}
-use Rattle.promises.proofs.FormatNumbers.{Low, tabled}
+use Rattle.promises.proofs.FormatNumbers.{tabled}
 use Rattle.promises.proofs.Refusals.{farthest}
 use Rattle.promises.proofs.Entries.{CheckedIn}
 use Rattle.promises.proofs.ReadCalls.{checked-in}

@@ -1,6 +1,6 @@
 -- What no call takes (01, "Order"): a format that is not 1 to 3 is 16, then an edition that is not 1 or 2 is 1, then an image or an output above 65,536 bytes is 2; each at 0.
 -- Assumes nothing.
-use Prim.Native.Nat.{ℕ, _≤_, _<_}
+use Prim.Native.Nat.{ℕ, _<_}
 use mathlib.Core.List.{List}
 use mathlib.Core.Logic.{_⊎_}
 use lib.ListN.{length}

@@ -9,13 +9,10 @@ use lib.ListN.{length, replicate}
 use Rattle.layout.specs.declared.Format.{Format}
 use Rattle.layout.specs.declared.Format.the-variants.{Fboss, Vpd, Tiny}
 use Rattle.layout.specs.declared.Entry.{Entry}
-use Rattle.layout.specs.Shape.{Shape}
 use Rattle.layout.specs.Editions.{shape}
 use Rattle.layout.specs.Walk.{Content}
-use Rattle.layout.specs.Calls.{Told}
-use Rattle.layout.specs.Write.{Outcome}
 use Rattle.layout.specs.Edit.{editRule, editEntry}
-use Rattle.laws.specs.Grammar.{Grammar, grammar, Entries}
+use Rattle.laws.specs.Grammar.{grammar, Entries}
 use Rattle.promises.specs.Words.{Serves, Counts, Item, tellsCheck, tellsEdit}
 use Rattle.promises.specs.Names.{Named}
 use Rattle.promises.specs.Listing.{ListOf}

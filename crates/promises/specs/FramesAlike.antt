@@ -7,11 +7,9 @@ use mathlib.Core.Bool.{true, false}
 use lib.ListN.{length}
 use Rattle.layout.specs.declared.Format.{Format}
 use Rattle.layout.specs.Bytes.{oneOf}
-use Rattle.layout.specs.Shape.{Shape}
 use Rattle.layout.specs.Editions.{shape}
 use Rattle.layout.specs.Walk.{Content}
-use Rattle.layout.specs.Calls.{Told}
-use Rattle.laws.specs.Grammar.{Grammar, grammar, Entries}
+use Rattle.laws.specs.Grammar.{grammar, Entries}
 use Rattle.promises.specs.Words.{KnownEdition, Serves, tellsCheck}
 
 -- an image whose frames and check are right: a header, entries without gaps, what closes them, the right check, and any rest; whatever its entries say

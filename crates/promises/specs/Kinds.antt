@@ -12,7 +12,6 @@ use Rattle.layout.specs.declared.Identity.{Identity}
 use Rattle.layout.specs.declared.Reading.{Reading}
 use Rattle.layout.specs.declared.Reading.the-variants.{Plain, Text, Number, Addresses, Numbered, Tests, Identified, Batched}
 use Rattle.layout.specs.Bytes.{stringNumber}
-use Rattle.layout.specs.Walk.{Content}
 use Rattle.laws.specs.Contents.{said}
 use Rattle.laws.specs.Grammar.{Each}
 use Rattle.promises.specs.Words.{Serves, Counts, Lists, tellsCheck}

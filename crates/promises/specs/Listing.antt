@@ -8,10 +8,9 @@ use Rattle.layout.specs.declared.Format.{Format}
 use Rattle.layout.specs.declared.Entry.{Entry}
 use Rattle.layout.specs.declared.Format.the-variants.{Vpd}
 use Rattle.layout.specs.Bytes.{part, partAt}
-use Rattle.layout.specs.Shape.{Shape}
 use Rattle.layout.specs.Editions.{shape}
 use Rattle.laws.specs.Contents.{said, Tiles}
-use Rattle.laws.specs.Grammar.{Grammar, grammar, EntryOf, Each}
+use Rattle.laws.specs.Grammar.{grammar, EntryOf, Each}
 use Rattle.promises.specs.Words.{Serves, Counts, Lists, tellsCheck}
 
 -- a record's bytes, from its place to its value's end, are an entry of the grammar that says what the record says; without keys the key has length 0 and stands at the value's place

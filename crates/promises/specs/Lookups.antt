@@ -5,12 +5,10 @@ use mathlib.Core.Path.{_≡_}
 use mathlib.Core.List.{List, [], _∷_, _++_, map}
 use lib.ListN.{length, take, replicate}
 use Rattle.layout.specs.declared.Entry.{Entry}
-use Rattle.layout.specs.declared.Refusal.{Refusal}
 use Rattle.layout.specs.declared.Located.{Located}
 use Rattle.layout.specs.Bytes.{partAt, refusal}
-use Rattle.layout.specs.Walk.{Content}
 use Rattle.layout.specs.Read.{limit}
-use Rattle.layout.specs.Calls.{Told, told, toldRefusal, toldLookup, toldLocated, bytesAt, verdict, valueAt, stringAt, Step, stepFrom}
+use Rattle.layout.specs.Calls.{Told, told, toldRefusal, toldLookup, toldLocated, bytesAt, verdict, valueAt, stringAt, stepFrom}
 use Rattle.laws.specs.Contents.{said}
 use Rattle.promises.specs.Words.{Counts, Refuses, IsRefused, Item, Lists, tellsCheck, tellsList, tellsEntry, tellsValue, tellsEdit}
 

@@ -8,7 +8,7 @@ use Rattle.layout.specs.declared.Part.{Part}
 use Rattle.layout.specs.declared.Entry.{Entry}
 use Rattle.layout.specs.declared.Field.{Field}
 use Rattle.layout.specs.Bytes.{oneOf, partAt}
-use Rattle.layout.specs.Calls.{Told, Step, toldLookup, stepFrom}
+use Rattle.layout.specs.Calls.{Told, toldLookup, stepFrom}
 use Rattle.promises.specs.Words.{tellsCheck, tellsList, tellsEntry, tellsValue, tellsString, tellsWrite, tellsEdit}
 
 -- a call that can be refused by these numbers alone: where it is not, number and place are 0; where it is, the count is 0, the part is empty and no entry is given

@@ -1,11 +1,9 @@
 -- Promise 5, older edits (demand 3): what an older edition edits, a newer one still reads, with only that value changed.
 -- Assumes nothing.
 use Prim.Native.Nat.{ℕ, _≤_}
-use mathlib.Core.Path.{_≡_}
 use mathlib.Core.List.{List}
 use lib.ListN.{take}
 use Rattle.layout.specs.Walk.{Content}
-use Rattle.layout.specs.Write.{Outcome}
 use Rattle.layout.specs.Edit.{editEntry}
 use Rattle.laws.specs.Contents.{replaced}
 use Rattle.promises.specs.Words.{Counts, Reads, tellsCheck, tellsEdit}

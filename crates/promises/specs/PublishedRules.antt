@@ -1,7 +1,6 @@
 -- Promise 1, published rules: an image is accepted exactly where it is of the grammar, and the list is all its entries, in order.
 -- Assumes nothing.
 use Prim.Native.Nat.{ℕ}
-use mathlib.Core.Path.{_≡_}
 use mathlib.Core.List.{List}
 use Rattle.layout.specs.declared.Format.{Format}
 use Rattle.layout.specs.Walk.{Content}

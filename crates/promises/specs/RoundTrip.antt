@@ -1,14 +1,13 @@
 -- Promise 3, round trip (demand 2): what the writer takes, the reader of that edition gives back.
 -- Assumes nothing.
 use Prim.Native.Nat.{ℕ}
-use mathlib.Core.Path.{_≡_}
 use mathlib.Core.List.{List, [], map}
 use lib.ListN.{take}
 use lib.Dec.{eqb}
 use Rattle.layout.specs.declared.Field.{Field}
 use Rattle.layout.specs.Bytes.{if, part}
 use Rattle.layout.specs.Walk.{Content}
-use Rattle.layout.specs.Write.{Outcome, writeImage}
+use Rattle.layout.specs.Write.{writeImage}
 use Rattle.promises.specs.Words.{Counts, Reads, tellsWrite}
 
 -- what a field of a write says: its code, its part of the lent values, and a key in VPD alone

@@ -7,7 +7,6 @@ use lib.ListN.{length}
 use Rattle.layout.specs.declared.Part.{Part}
 use Rattle.layout.specs.declared.Entry.{Entry}
 use Rattle.layout.specs.Bytes.{part, partAt}
-use Rattle.layout.specs.Walk.{Content}
 use Rattle.layout.specs.Calls.{told, bytesAt, stringAt}
 use Rattle.laws.specs.Contents.{said}
 use Rattle.laws.specs.Grammar.{Each}

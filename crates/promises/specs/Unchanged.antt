@@ -5,8 +5,8 @@ use mathlib.Core.Path.{_≡_}
 use mathlib.Core.List.{List}
 use Rattle.layout.specs.declared.Entry.{Entry}
 use Rattle.layout.specs.declared.Field.{Field}
-use Rattle.layout.specs.Calls.{Listed, listEntries}
-use Rattle.layout.specs.Write.{Outcome, writeImage}
+use Rattle.layout.specs.Calls.{listEntries}
+use Rattle.layout.specs.Write.{writeImage}
 use Rattle.layout.specs.Edit.{editEntry}
 use Rattle.promises.specs.Words.{IsRefused, tellsList, tellsWrite, tellsEdit}
 

@@ -10,8 +10,8 @@ use Rattle.layout.specs.declared.Entry.{Entry}
 use Rattle.layout.specs.declared.Field.{Field}
 use Rattle.layout.specs.Bytes.{partAt, refusal}
 use Rattle.layout.specs.Walk.{Content}
-use Rattle.layout.specs.Calls.{Told, told, toldRefusal, toldChecked, toldLookup, toldLocated, checkImage, Listed, listEntries, entryAt, valueAt, stringAt}
-use Rattle.layout.specs.Write.{Outcome, writeImage, toldMade}
+use Rattle.layout.specs.Calls.{Told, told, toldRefusal, toldChecked, toldLookup, toldLocated, checkImage, listEntries, entryAt, valueAt, stringAt}
+use Rattle.layout.specs.Write.{writeImage, toldMade}
 use Rattle.layout.specs.Edit.{editEntry}
 use Rattle.laws.specs.Contents.{said}
 

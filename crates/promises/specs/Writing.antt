@@ -12,8 +12,7 @@ use Rattle.layout.specs.declared.Part.{Part}
 use Rattle.layout.specs.declared.Field.{Field}
 use Rattle.layout.specs.Editions.{shape}
 use Rattle.layout.specs.Walk.{Content}
-use Rattle.layout.specs.Calls.{Told}
-use Rattle.layout.specs.Write.{Outcome, writerRule, writeImage}
+use Rattle.layout.specs.Write.{writerRule, writeImage}
 use Rattle.laws.specs.Grammar.{Each, Among}
 use Rattle.promises.specs.Words.{Serves, Counts, tellsWrite}
 use Rattle.promises.specs.Names.{Named}

@@ -10,7 +10,7 @@ use Rattle.layout.specs.declared.Format.{Format}
 use Rattle.layout.specs.declared.Format.the-variants.{Fboss, Vpd, Tiny}
 use Rattle.layout.specs.Bytes.{if}
 use Rattle.layout.specs.Walk.{Content}
-use Rattle.laws.specs.Grammar.{Grammar, grammar, Each}
+use Rattle.laws.specs.Grammar.{grammar, Each}
 
 -- the image of these bytes of entries: header, entries, the end, the right check
 pub data Written : Format → List ℕ → List ℕ → Type 0 where
