@@ -18,8 +18,9 @@ unfoldable pub hashFrom : ℕ → List ℕ → ℕ
 hashFrom h [] = h
 hashFrom h (b ∷ bs) = hashFrom (hashByte h b) bs
 
+-- from 1 on: from 0 on, bytes 00h before a key would not tell it from that key
 unfoldable pub hashed : List ℕ → ℕ
-hashed key = hashFrom 0 key
+hashed key = hashFrom 1 key
 
 -- which of n words a hash belongs to
 unfoldable pub wordAt : ℕ → ℕ → ℕ
@@ -66,7 +67,7 @@ abbrev pub moreWords : ℕ
 moreWords = 256
 
 abbrev pub manyWords : ℕ
-manyWords = 6144
+manyWords = 6656
 
 -- the words of the filter for so many keys: none for three or fewer, else the first of these sizes that has a word for each two of them, or the largest
 unfoldable pub filterWords : ℕ → ℕ

@@ -15,7 +15,7 @@ fn hash_byte(h: u32, b: u8) -> u32
 fn hash_key(key: &[u8]) -> u32
     ensures { λ r. ⌜ r ≡ hashed (now (key .entry)) ⌝ }
 {
-    let mut h: u32 = 0;
+    let mut h: u32 = 1;
     let mut i = 0;
     while i < key.len() {
         h = hash_byte(h, key[i]);
@@ -78,7 +78,7 @@ pub const FEW: usize = 64;
 
 pub const MORE: usize = 256;
 
-pub const MANY: usize = 6144;
+pub const MANY: usize = 6656;
 
 // How many keys there can be among so many entries.
 fn key_count(format: Format, count: usize) -> usize

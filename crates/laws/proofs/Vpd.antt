@@ -4,7 +4,7 @@ use Prim.Native.Nat.{ℕ, suc, _+_, _-_, _≤_, _<_}
 use mathlib.Core.Path.{_≡_, refl, ap, sym}
 use mathlib.Core.List.{List, [], _∷_, _++_, append-assoc}
 use mathlib.Core.Logic.{_⊎_, inl, inr, ⊎-elim}
-use mathlib.Core.Bool.{Bool, true, false, false≢true, and-eq-true-iff}
+use mathlib.Core.Bool.{Bool, true, false, _&&_, false≢true, and-eq-true-iff}
 use native.Mathlib.Omega.{arith}
 use lib.ListN.{length, take, drop, length-append, take-append-drop}
 use lib.Seq.{take-all, length-take-le}
@@ -14,9 +14,9 @@ use Rattle.layout.specs.declared.Headed.{Headed}
 use Rattle.layout.specs.declared.Headed.the-variants.{Opens, Ends, Wrong}
 use Rattle.layout.specs.declared.Length.{Length}
 use Rattle.layout.specs.declared.Length.the-variants.{Reads, Fails}
-use Rattle.layout.specs.Bytes.{if, between, part}
+use Rattle.layout.specs.Bytes.{if, between, all, part}
 use Rattle.layout.specs.Editions.{names, sinceIn}
-use Rattle.layout.specs.Vpd.{vpd, vpdHead, keyedHead, groups, vpdReaderKey, vpdWriterKey, shortest}
+use Rattle.layout.specs.Vpd.{vpd, vpdHead, keyedHead, groups, keyByte, vpdReaderKey, vpdWriterKey, shortest}
 use Rattle.laws.specs.Grammar.{vpdGrammar, VpdOpening, Each, also}
 use Rattle.laws.proofs.Format.{headFrom, Begins, Wholly, Laws}
 use Rattle.laws.proofs.Lists.{each-left}
@@ -123,9 +123,18 @@ opening-least c key l bytes o =
     go : Each (λ b. b < 256) (c ∷ (o .lens ++ key)) → length (shortest (length key)) ≤ length (o .lens)
     go (also b bs) = shortest-least (each-left (o .lens) key bs) (o .says)
 
+-- a key that may be written may be read
+written-key : (c : ℕ) (key : List ℕ) → vpdWriterKey c key ≡ true → vpdReaderKey c key ≡ true
+unfolding vpdReaderKey vpdWriterKey
+written-key c key = go (eqb c 0x01)
+  where
+    go : (b : Bool) → if b (λ _. ltb 0 (length key) && all keyByte key) (λ _. true) ≡ true → if b (λ _. ltb 0 (length key)) (λ _. true) ≡ true
+    go true h = and-eq-true-iff (ltb 0 (length key)) (all keyByte key) .0 h .0
+    go false h = refl
+
 -- VPD 2.0 reads exactly what its grammar writes, and writes what it reads
 pub vpd-laws : Laws vpd vpdGrammar
-unfolding vpd part vpdReaderKey vpdWriterKey
+unfolding vpd part
 vpd-laws =
     record {
       opening-key = λ front key c o. record { before = c ∷ o .lens; joined = o .is; some = omega arith };
@@ -144,7 +153,7 @@ vpd-laws =
       opening-shortest = opening-least;
       lens-made = λ c n h le. shortest-says n;
       lens-shortest = λ c n l bytes says. shortest-least bytes says;
-      key-made = λ c key h. h;
+      key-made = written-key;
       closing-made = inl refl;
       closing-length = λ z. ⊎-elim (λ e. ap length e) (λ e. ap length e);
       room-made = λ entries z t closing.

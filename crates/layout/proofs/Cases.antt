@@ -100,6 +100,14 @@ keyOnly key = 0x01 ∷ length key ∷ (key ++ hex "00 00")
 abbrev pub sku : List ℕ
 sku = hex "01 03 53 4B 55 02 41 37 00"
 
+-- an entry named "lab.rack", with the value "R2"
+abbrev pub labRack : List ℕ
+labRack = hex "01 08 6C 61 62 2E 72 61 63 6B 02 52 32"
+
+-- that entry, and one whose key is no text and has its length in two bytes; an end by FFh
+abbrev pub twoNames : List ℕ
+twoNames = labRack ++ hex "01 80 02 00 22 80 01 41 FF"
+
 -- 01's image of one FEh with three bytes
 abbrev pub threeBytes : List ℕ
 threeBytes = hex "FE 01 41 03 01 02 03 00"

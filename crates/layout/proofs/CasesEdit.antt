@@ -7,7 +7,7 @@ use lib.ListN.{replicate}
 use Rattle.layout.specs.declared.Checked.the-variants.{Accepted}
 use Rattle.layout.specs.declared.Made.the-variants.{Wrote}
 use Rattle.layout.specs.Bytes.{refusal}
-use Rattle.layout.proofs.Cases.{text, hex, run, fbossOf, five, boardWith, withBlock, sku, threeBytes, noTags, unwritten, editing}
+use Rattle.layout.proofs.Cases.{text, hex, run, fbossOf, five, boardWith, withBlock, sku, labRack, twoNames, threeBytes, noTags, unwritten, editing}
 use Rattle.layout.proofs.Cases.{Case, checks, alike, sweeps, edits, unedits, given, wanted}
 
 -- a 01h, and an FEh whose key has its length in two bytes; an end by FFh, and a byte after it
@@ -37,6 +37,11 @@ cases =
     ∷ edits 2 1 skuAndFeh 0 (text "B") (replicate 17 7) (Wrote 17) (hex "01 03 53 4B 55 01 42 FE 80 01 41 04 01 02 03 04 00")
     ∷ edits 2 1 (hex "01 01 41 80 80 02 42 43 01 01 42 80 01 44 00") 0 (text "E") (replicate 14 7) (Wrote 12) (hex "01 01 41 01 45 01 01 42 80 01 44 00 FF FF")
     ∷ edits 2 1 (hex "01 01 41 80 80 02 42 43 01 01 42 80 01 44 00") 1 (text "E") (replicate 14 7) (Wrote 14) (hex "01 01 41 80 80 02 42 43 01 01 42 01 45 00")
+    -- an edit reads by the reader's rule on keys, and keeps a key as it is
+    ∷ edits 2 1 twoNames 0 (text "R17") (replicate 23 7) (Wrote 23) (hex "01 08 6C 61 62 2E 72 61 63 6B 03 52 31 37 01 80 02 00 22 80 01 41 00")
+    ∷ edits 2 2 twoNames 1 [] (replicate 21 7) (Wrote 20) (hex "01 08 6C 61 62 2E 72 61 63 6B 02 52 32 01 80 02 00 22 00 00 FF")
+    ∷ unedits 2 1 (labRack ++ labRack ++ hex "00") 0 (text "R3") 30 (refusal 8 13)
+    ∷ unedits 2 2 (labRack ++ hex "01 00 00 00") 0 (text "R3") 30 (refusal 7 13)
     -- ---- FBOSS: the first entry, one in the middle and the last that edition 1 names, before an entry that it does not
     ∷ edits 1 1 (fbossOf five 0x4826) 0 (text "XY") (replicate 25 7) (Wrote 24) (fbossOf (hex "01 02 58 59 08 01 05 09 01 00 0A 01 01 0B 01 42") 0x3C44 ++ hex "FF")
     ∷ edits 1 2 (fbossOf five 0x4826 ++ hex "00 FF") 2 (hex "FF") (replicate 23 7) (Wrote 23) (fbossOf (hex "01 01 41 08 01 05 09 01 FF 0A 01 01 0B 01 42") 0xED57)

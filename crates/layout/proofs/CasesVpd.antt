@@ -9,7 +9,7 @@ use Rattle.layout.specs.declared.Checked.the-variants.{Accepted}
 use Rattle.layout.specs.declared.Lookup.the-variants.{Found}
 use Rattle.layout.specs.declared.Located.the-variants.{At}
 use Rattle.layout.specs.Bytes.{partAt}
-use Rattle.layout.proofs.Cases.{text, hex, run, keyOnly, sku, threeBytes, keyed, refuses, misses, nowhere, checking, writing, writingKey, naming}
+use Rattle.layout.proofs.Cases.{text, hex, run, keyOnly, sku, labRack, twoNames, threeBytes, keyed, refuses, misses, nowhere, checking, writing, writingKey, naming}
 use Rattle.layout.proofs.Cases.{Case, lengths, shortests, checks, alike, sweeps, lists, entries, finds, values, steps, given, wanted}
 
 -- a 01h, an FEh whose key has its length in two bytes, and a 01h; an end by FFh, and a byte after it
@@ -28,7 +28,7 @@ longKey = hex "01 80 81 02" ++ replicate 130 0x43 ++ hex "01 44 00"
 abbrev pub feh : ℕ → List ℕ
 feh n = 0xFE ∷ 0 ∷ n ∷ (replicate n 0 ++ hex "00")
 
--- the bytes of a key
+-- the bytes of a key that is written
 abbrev pub keyBytes : List ℕ
 keyBytes = run 0x30 0x39 ++ run 0x41 0x5A ++ (0x5F ∷ run 0x61 0x7A)
 
@@ -104,30 +104,29 @@ cases =
     ∷ finds 2 2 longValue 0 (Found (keyed 0x01 513 0 2 1 5 128))
     ∷ finds 2 1 longKey 0 (Found (keyed 0x01 513 0 4 130 135 1))
     -- a frame before a rule
-    ∷ alike 2 (hex "01 01 2E 00 02 00") (refuses 6 4)
+    ∷ alike 2 (hex "01 00 00 02 00") (refuses 6 3)
     ∷ alike 2 (hex "01 00 00 01") (refuses 5 3)
-    -- ---- 7: keys of a 01h, at least one byte, from the alphabet; on both sides of each of its ends
+    -- ---- 7: the key of a 01h has at least one byte; it may be any
     ∷ alike 2 (keyOnly []) (refuses 7 0)
-    ∷ alike 2 (keyOnly (text "aZ9_")) (Accepted 1)
-    ∷ alike 2 (keyOnly (text "/")) (refuses 7 0)
-    ∷ alike 2 (keyOnly (text "0")) (Accepted 1)
-    ∷ alike 2 (keyOnly (text "9")) (Accepted 1)
-    ∷ alike 2 (keyOnly (text ":")) (refuses 7 0)
-    ∷ alike 2 (keyOnly (text "@")) (refuses 7 0)
-    ∷ alike 2 (keyOnly (text "A")) (Accepted 1)
-    ∷ alike 2 (keyOnly (text "Z")) (Accepted 1)
-    ∷ alike 2 (keyOnly (text "[")) (refuses 7 0)
-    ∷ alike 2 (keyOnly (text "^")) (refuses 7 0)
-    ∷ alike 2 (keyOnly (text "_")) (Accepted 1)
-    ∷ alike 2 (keyOnly (text "`")) (refuses 7 0)
-    ∷ alike 2 (keyOnly (text "a")) (Accepted 1)
-    ∷ alike 2 (keyOnly (text "z")) (Accepted 1)
-    ∷ alike 2 (keyOnly (text "{")) (refuses 7 0)
-    ∷ alike 2 (keyOnly (text "SK.")) (refuses 7 0)
-    ∷ sweeps 256 (λ b. checking 2 1 (keyOnly (b ∷ []))) 0 keyBytes
-    ∷ sweeps 256 (λ b. checking 2 2 (keyOnly (0x41 ∷ b ∷ []))) 0 keyBytes
-    ∷ sweeps 256 (λ b. checking 2 2 (keyOnly (b ∷ []))) 7 (run 0 0x2F ++ run 0x3A 0x40 ++ run 0x5B 0x5E ++ (0x60 ∷ run 0x7B 0xFF))
-    -- the same of a key that is written
+    ∷ alike 2 (hex "01 01 41 00 01 00 00 00") (refuses 7 4)
+    ∷ alike 2 (hex "01 80 00 00 00") (refuses 7 0)
+    ∷ sweeps 10 (λ n. checking 2 1 (keyOnly (replicate n 0x2E))) 7 (0 ∷ [])
+    ∷ sweeps 10 (λ n. checking 2 2 (keyOnly (replicate n 0))) 0 (run 1 9)
+    ∷ sweeps 256 (λ b. checking 2 1 (keyOnly (b ∷ []))) 0 (run 0 255)
+    ∷ sweeps 256 (λ b. checking 2 2 (keyOnly (b ∷ []))) 0 (run 0 255)
+    ∷ sweeps 256 (λ b. checking 2 2 (keyOnly (0x41 ∷ b ∷ []))) 0 (run 0 255)
+    -- a name with a dot, in each call
+    ∷ alike 2 (labRack ++ hex "00") (Accepted 1)
+    ∷ lists 2 1 twoNames (keyed 0x01 513 0 2 8 11 2 ∷ keyed 0x01 513 13 16 2 20 1 ∷ [])
+    ∷ lists 2 2 twoNames (keyed 0x01 513 0 2 8 11 2 ∷ keyed 0x01 513 13 16 2 20 1 ∷ [])
+    ∷ entries 2 2 twoNames (keyed 0x01 513 0 2 8 11 2 ∷ keyed 0x01 513 13 16 2 20 1 ∷ [])
+    ∷ finds 2 1 twoNames 0 (Found (keyed 0x01 513 0 2 8 11 2))
+    ∷ finds 2 2 twoNames 1 (Found (keyed 0x01 513 13 16 2 20 1))
+    ∷ values 2 1 twoNames 0 (At (partAt 11 2)) (text "R2")
+    ∷ values 2 2 twoNames 1 (At (partAt 20 1)) (text "A")
+    ∷ steps 2 1 0 twoNames (Found (keyed 0x01 513 0 2 8 11 2)) 1
+    -- 7: of a key that is written, at least one byte, each from the alphabet
+    ∷ sweeps 2 (λ n. writingKey 1 (replicate n 0x41)) 7 (0 ∷ [])
     ∷ sweeps 256 (λ b. writingKey 1 (b ∷ [])) 12 keyBytes
     ∷ sweeps 256 (λ b. writingKey 2 (0x41 ∷ b ∷ [])) 12 keyBytes
     ∷ sweeps 256 (λ b. writingKey 2 (b ∷ [])) 7 (run 0 0x2F ++ run 0x3A 0x40 ++ run 0x5B 0x5E ++ (0x60 ∷ run 0x7B 0xFF))
@@ -145,6 +144,11 @@ cases =
     ∷ alike 2 (hex "01 01 41 00 01 80 01 41 01 42 00") (refuses 8 4)
     ∷ alike 2 (hex "01 01 41 00 01 01 42 00 01 01 41 00 00") (refuses 8 8)
     ∷ alike 2 (hex "01 01 41 00 01 01 42 00 01 01 42 00 00") (refuses 8 8)
+    ∷ alike 2 (labRack ++ labRack ++ hex "00") (refuses 8 13)
+    ∷ alike 2 (labRack ++ hex "01 80 08 6C 61 62 2E 72 61 63 6B 00 00") (refuses 8 13)
+    ∷ alike 2 (labRack ++ hex "01 08 6C 61 62 5F 72 61 63 6B 00 01 08 6C 61 62 2E 52 61 63 6B 00 00") (Accepted 3)
+    ∷ alike 2 (hex "01 01 00 00 01 02 00 00 00 01 03 00 00 00 00 00") (Accepted 3)
+    ∷ alike 2 (hex "01 01 00 00 01 02 00 00 00 01 01 00 00 00") (refuses 8 9)
     ∷ alike 2 (hex "01 01 41 00 01 01 61 00 00") (Accepted 2)
     ∷ alike 2 (hex "01 01 41 00 01 02 41 42 00 00") (Accepted 2)
     ∷ alike 2 (hex "01 02 41 42 00 01 01 41 00 00") (Accepted 2)
@@ -157,6 +161,7 @@ cases =
     -- 7 before 8
     ∷ checks 2 2 (hex "FE 00 04 00 00 00 00 FE 00 03 00 00 00 00") (refuses 7 7)
     ∷ alike 2 (hex "01 01 41 00 01 01 41 00 01 00 00 00") (refuses 8 4)
+    ∷ alike 2 (hex "01 00 00 01 00 00 00") (refuses 7 0)
     -- ---- the types that each edition names: 13, and 14 for any other
     ∷ sweeps 300 (λ c. naming 2 1 c) 13 (0x01 ∷ [])
     ∷ sweeps 300 (λ c. naming 2 2 c) 13 (0x01 ∷ 0xFE ∷ [])

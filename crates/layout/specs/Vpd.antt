@@ -48,13 +48,13 @@ shortest n =
     (λ _. if (ltb n 2097152) (λ _. (128 + n / 16384) ∷ (128 + n / 128 % 128) ∷ (n % 128) ∷ [])
     (λ _. (128 + n / 2097152) ∷ (128 + n / 16384 % 128) ∷ (128 + n / 128 % 128) ∷ (n % 128) ∷ [])))
 
--- a byte of a key: a-z, A-Z, 0-9 or underscore
+-- a byte of a key that is written: a-z, A-Z, 0-9 or underscore
 abbrev pub keyByte : ℕ → Bool
 keyByte b = between 0x61 0x7A b || between 0x41 0x5A b || between 0x30 0x39 b || eqb b 0x5F
 
--- the reader's rule on the key of a 01h
+-- the reader's rule on the key of a 01h: it is not empty, and may be any bytes
 unfoldable pub vpdReaderKey : ℕ → List ℕ → Bool
-vpdReaderKey c key = if (eqb c 0x01) (λ _. ltb 0 (length key) && all keyByte key) (λ _. true)
+vpdReaderKey c key = if (eqb c 0x01) (λ _. ltb 0 (length key)) (λ _. true)
 
 -- the writer's rule on the key of a 01h
 unfoldable pub vpdWriterKey : ℕ → List ℕ → Bool

@@ -9,10 +9,10 @@ use native.Mathlib.Omega.{arith}
 use lib.ListN.{length, getD, drop, drop-of-length-le}
 use lib.Seq.{drop-cons}
 use lib.Dec.{ltb, leb, eqb}
-use borrow.Author.Tests.{ltb-true, ltb-false, lt-ltb, le-ltb, leb-true, le-leb, eqb-true, eq-eqb}
+use borrow.Author.Tests.{ltb-true, ltb-false, lt-ltb, le-ltb, leb-true, le-leb, eqb-true, eqb-false, eq-eqb}
 use Rattle.layout.specs.declared.Format.{Format}
 use Rattle.layout.specs.declared.Format.the-variants.{Fboss, Vpd, Tiny}
-use Rattle.layout.specs.Bytes.{between, all, oneOf}
+use Rattle.layout.specs.Bytes.{if, between, all, oneOf}
 use Rattle.layout.specs.Fboss.{fboss, fbossRule, dateRule, digit, twoDigits, printable}
 use Rattle.layout.specs.Vpd.{vpd, vpdReaderKey, vpdWriterKey, vpdRule, keyByte}
 use Rattle.layout.specs.Tiny.{tiny, tinyRule, tinyTakes, revisionRule, batch}
@@ -24,7 +24,7 @@ use Rattle.layout.specs.Edit.{editRule}
 use Rattle.laws.specs.Grammar.{grammar, EntryOf, Each, none, also, TinySays}
 use Rattle.laws.proofs.Choices.{either, both}
 use Rattle.promises.specs.Names.{One, Two, Named, sinceOne, sinceTwo, vpd01, tiny01, tiny10, tiny11, tiny60, tiny61, tiny62, vpdFE, tiny80, tiny81}
-use Rattle.promises.specs.Rules.{Exactly, Between, Printable, TextCode, KeyByte, FbossValue, VpdKey, VpdValue, Revision, TinyValue, KeyRule, ValueRule, LengthRule, Rules}
+use Rattle.promises.specs.Rules.{Exactly, Between, Printable, TextCode, KeyByte, FbossValue, VpdKey, VpdValue, Revision, TinyValue, KeyRule, AlphabetRule, ValueRule, LengthRule, Rules}
 use Rattle.promises.proofs.Naming.{FromTo, each-between}
 
 -- ---- a test is exactly what it tests
@@ -204,20 +204,33 @@ tells-key-byte b =
     rw (or-assoc (between 0x61 0x7A b || between 0x41 0x5A b) (between 0x30 0x39 b) (eqb b 0x5F), or-assoc (between 0x61 0x7A b) (between 0x41 0x5A b) _)
     (tells-or (tells-between 0x61 0x7A b) (tells-or (tells-between 0x41 0x5A b) (tells-or (tells-between 0x30 0x39 b) (tells-eq b 0x5F))))
 
-tells-key : (key : List ℕ) → Tells (ltb 0 (length key) && all keyByte key) ((1 ≤ length key) × Each KeyByte key)
-tells-key key = tells-both (tells-lt 0 (length key)) (tells-all tells-key-byte key)
-
 vpd-key : {e code : ℕ} (key : List ℕ) → Named Vpd e code → Tells (vpdReaderKey code key) (VpdKey code key)
 unfolding vpdReaderKey
 vpd-key {e} {code} key n = record { to = to n; from = from }
   where
     to : {code : ℕ} → Named Vpd e code → vpdReaderKey code key ≡ true → VpdKey code key
-    to (sinceOne le vpd01) h = let w = tells-key key .to h in VpdKey.string refl (w .0) (w .1)
+    to (sinceOne le vpd01) h = VpdKey.string refl (tells-lt 0 (length key) .to h)
     to (sinceTwo le vpdFE) h = VpdKey.info refl
 
     from : VpdKey code key → vpdReaderKey code key ≡ true
-    from (VpdKey.string is long each) = rw is (tells-key key .from (long, each))
+    from (VpdKey.string is long) = rw is (tells-lt 0 (length key) .from long)
     from (VpdKey.info is) = rw is refl
+
+-- the writer's test of a key is the reader's, and that of its bytes
+vpd-new-key : (code : ℕ) (key : List ℕ) → vpdWriterKey code key ≡ (vpdReaderKey code key && if (eqb code 0x01) (λ _. all keyByte key) (λ _. true))
+unfolding vpdReaderKey vpdWriterKey
+vpd-new-key code key = go (eqb code 0x01)
+  where
+    go : (b : Bool) → if b (λ _. ltb 0 (length key) && all keyByte key) (λ _. true) ≡ (if b (λ _. ltb 0 (length key)) (λ _. true) && if b (λ _. all keyByte key) (λ _. true))
+    go true = refl
+    go false = refl
+
+vpd-alphabet : (code : ℕ) (key : List ℕ) → Tells (if (eqb code 0x01) (λ _. all keyByte key) (λ _. true)) (code ≡ 0x01 → Each KeyByte key)
+vpd-alphabet code key = go (eqb code 0x01) refl
+  where
+    go : (b : Bool) → eqb code 0x01 ≡ b → Tells (if b (λ _. all keyByte key) (λ _. true)) (code ≡ 0x01 → Each KeyByte key)
+    go true is = record { to = λ t _. tells-all tells-key-byte key .to t; from = λ each. tells-all tells-key-byte key .from (each (eqb-true code 0x01 is)) }
+    go false not = record { to = λ _ is. absurd (eqb-false code 0x01 not is); from = λ _. refl }
 
 vpd-value : {e code : ℕ} (v : List ℕ) → Named Vpd e code → Tells (vpdRule code v) (VpdValue code v)
 unfolding vpdRule
@@ -303,13 +316,6 @@ length-fits Vpd code n l = tt
 length-fits Tiny code n (inl (low, short)) = λ high. absurd (omega arith)
 length-fits Tiny code n (inr (high, sized)) = λ _. sized
 
--- the reader's and the writer's tests of a key are one
-keys-alike : (g : Format) (code : ℕ) (key : List ℕ) → shape g .writerKey code key ≡ shape g .readerKey code key
-unfolding fboss vpd tiny vpdReaderKey vpdWriterKey
-keys-alike Fboss code key = refl
-keys-alike Vpd code key = refl
-keys-alike Tiny code key = refl
-
 tells-nothing : Tells true (Unit {0})
 tells-nothing = record { to = λ _. tt; from = λ _. refl }
 
@@ -318,6 +324,12 @@ unfolding fboss vpd tiny
 key-exactly Fboss e code key n = tells-nothing
 key-exactly Vpd e code key n = vpd-key key n
 key-exactly Tiny e code key n = tells-nothing
+
+new-key-exactly : (g : Format) (e code : ℕ) (key : List ℕ) → Named g e code → Tells (shape g .writerKey code key) (KeyRule g code key × AlphabetRule g code key)
+unfolding fboss vpd tiny
+new-key-exactly Fboss e code key n = tells-both tells-nothing tells-nothing
+new-key-exactly Vpd e code key n = rw (vpd-new-key code key) (tells-both (vpd-key key n) (vpd-alphabet code key))
+new-key-exactly Tiny e code key n = tells-both tells-nothing tells-nothing
 
 value-exactly : (g : Format) (e code : ℕ) (v : List ℕ) → Named g e code → Fits g code (length v) → Tells (shape g .valueRule code v) (ValueRule g code v)
 unfolding fboss vpd tiny
@@ -351,14 +363,14 @@ reader-exactly : (g : Format) (e : ℕ) (bytes : List ℕ) (c : Content) → Nam
 unfolding readerRule
 reader-exactly g e bytes c n x = tells-both (key-exactly g e (c .code) (c .key) n) (value-exactly g e (c .code) (c .value) n (entry-fits g x))
 
--- a field's rule is the rule on its key, and the rule on a new value
+-- a field's rule is the writer's rule on its key, and the rule on a new value
 writer-exactly : (g : Format) (e : ℕ) (c : Content) → Named g e (c .code) →
-    Tells (writerRule (shape g) c) (KeyRule g (c .code) (c .key) × LengthRule g (c .code) (length (c .value)) × ValueRule g (c .code) (c .value))
+    Tells (writerRule (shape g) c)
+    (KeyRule g (c .code) (c .key) × AlphabetRule g (c .code) (c .key) × LengthRule g (c .code) (length (c .value)) × ValueRule g (c .code) (c .value))
 unfolding writerRule editRule
 writer-exactly g e c n =
-    let x = tells-both (key-exactly g e (c .code) (c .key) n) (edit-exactly g e (c .code) (c .value) n) in
-    rw (and-assoc, keys-alike g (c .code) (c .key))
-    (record { to = λ t. let w = x .to t in (w .0, w .1 .0, w .1 .1); from = λ (k, l, v). x .from (k, (l, v)) })
+    let x = tells-both (new-key-exactly g e (c .code) (c .key) n) (edit-exactly g e (c .code) (c .value) n) in
+    rw and-assoc (record { to = λ t. let w = x .to t in (w .0 .0, w .0 .1, w .1 .0, w .1 .1); from = λ (k, a, l, v). x .from ((k, a), (l, v)) })
 
 pub rules : Rules
 rules = record { reader = reader-exactly; writer = writer-exactly; edit = edit-exactly }

@@ -1,4 +1,4 @@
--- The rules of named entries (7), as document 01's lines have them ("FBOSS v5", "VPD 2.0", "Tiny version 2", "Writing, editing, walking"), apart from the definitions' tests.
+-- The rules of named entries (7), as document 01's lines have them ("FBOSS v5", "VPD 2.0", "Tiny version 2", "Writing, editing, walking") and document 02's first item, apart from the definitions' tests.
 -- Assumes nothing.
 use Prim.Native.Nat.{ℕ, _+_, _*_, _/_, _≤_, _<_}
 use mathlib.Core.Path.{_≡_}
@@ -48,13 +48,14 @@ pub data FbossValue (code : ℕ) : List ℕ → Type 0 where
 
 -- ---- VPD
 
+-- a key: of a 01h at least one byte, any bytes
+pub data VpdKey (code : ℕ) (key : List ℕ) : Type 0 where
+  string : code ≡ 0x01 → 1 ≤ length key → VpdKey code key
+  info : code ≡ 0xFE → VpdKey code key
+
 -- a-z, A-Z, 0-9 or underscore
 abbrev pub KeyByte : ℕ → Type 0
 KeyByte b = Between 0x61 0x7A b ⊎ (Between 0x41 0x5A b ⊎ (Between 0x30 0x39 b ⊎ (b ≡ 0x5F)))
-
-pub data VpdKey (code : ℕ) (key : List ℕ) : Type 0 where
-  string : code ≡ 0x01 → 1 ≤ length key → Each KeyByte key → VpdKey code key
-  info : code ≡ 0xFE → VpdKey code key
 
 pub data VpdValue (code : ℕ) (v : List ℕ) : Type 0 where
   string : code ≡ 0x01 → VpdValue code v
@@ -81,6 +82,12 @@ KeyRule Fboss code key = Unit {0}
 KeyRule Vpd code key = VpdKey code key
 KeyRule Tiny code key = Unit {0}
 
+-- what a key that is written has besides: the bytes of a VPD string's are of the narrow alphabet
+abbrev pub AlphabetRule : Format → ℕ → List ℕ → Type 0
+AlphabetRule Fboss code key = Unit {0}
+AlphabetRule Vpd code key = code ≡ 0x01 → Each KeyByte key
+AlphabetRule Tiny code key = Unit {0}
+
 abbrev pub ValueRule : Format → ℕ → List ℕ → Type 0
 ValueRule Fboss code v = FbossValue code v
 ValueRule Vpd code v = VpdValue code v
@@ -98,6 +105,6 @@ pub record Rules : Type 0 where
       Exactly (readerRule (shape format) c ≡ true) (KeyRule format (c .code) (c .key) × ValueRule format (c .code) (c .value))
   pub writer : (format : Format) (e : ℕ) (c : Content) → Named format e (c .code) →
       Exactly (writerRule (shape format) c ≡ true)
-      (KeyRule format (c .code) (c .key) × LengthRule format (c .code) (length (c .value)) × ValueRule format (c .code) (c .value))
+      (KeyRule format (c .code) (c .key) × AlphabetRule format (c .code) (c .key) × LengthRule format (c .code) (length (c .value)) × ValueRule format (c .code) (c .value))
   pub edit : (format : Format) (e code : ℕ) (v : List ℕ) → Named format e code →
       Exactly (editRule (shape format) code v ≡ true) (LengthRule format code (length v) × ValueRule format code v)

@@ -67,7 +67,7 @@ pub fn vpd_head(s: &[u8]) -> Headed
     }
 }
 
-// The rule on the key of a 01h: it is not empty, and all its bytes are bytes of a key.
+// The writer's rule on the key of a 01h: it is not empty, and all its bytes are of the alphabet.
 fn key_rule(key: &[u8]) -> bool
     ensures { λ r. ⌜ r ≡ (ltb 0 (length (now (key .entry))) && all keyByte (now (key .entry))) ⌝ }
 {
@@ -97,11 +97,11 @@ pub fn vpd_writer_key(code: u32, key: &[u8]) -> bool
     if code == 0x01 { key_rule(key) } else { true }
 }
 
-// The reader's rule on a key, which is the writer's.
+// The reader's rule on a key: that of a 01h is not empty.
 pub fn vpd_reader_key(code: u32, key: &[u8]) -> bool
     ensures { λ r. ⌜ r ≡ vpdReaderKey code (now (key .entry)) ⌝ }
 {
-    vpd_writer_key(code, key)
+    if code == 0x01 { 0 < key.len() } else { true }
 }
 
 pub fn vpd_rule(code: u32, v: &[u8]) -> bool
