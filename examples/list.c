@@ -7,6 +7,10 @@
  * with, and how many entries there are. Then each entry has a line: its number, its name and its
  * value. An entry that the edition does not name has its code for a name, and its bytes for a value.
  *
+ * A VPD key may be any bytes. Text and keys stand in quotes; each of their bytes that is no
+ * printable ASCII, or is a quote or a backslash, is printed as \x and two hexadecimal digits. So a
+ * terminal is sent no control bytes of an image, and what stands in quotes can be read back.
+ *
  * Exit status: 0 listed, 1 the library refused the image, 2 a wrong command line, 3 the file could
  * not be read or the list not be written.
  */
@@ -107,19 +111,17 @@ static int is_text(const uint8_t *bytes, size_t length)
     return 1;
 }
 
-/* Prints one character of a text; what is not printable as \x and two digits. */
+/* Prints one byte of what stands in quotes, or \x and two digits for it. */
 static void print_character(unsigned character)
 {
-    if (character == '"' || character == '\\') {
-        printf("\\%c", (int)character);
-    } else if (character < 0x20 || character > 0x7E) {
+    if (character < 0x20 || character > 0x7E || character == '"' || character == '\\') {
         printf("\\x%02X", character);
     } else {
         printf("%c", (int)character);
     }
 }
 
-/* Prints bytes as a text in quotes. */
+/* Prints bytes, a text or a key, in quotes. */
 static void print_text(const uint8_t *bytes, size_t length)
 {
     size_t i;

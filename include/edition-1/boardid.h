@@ -72,8 +72,9 @@ enum {
 
 /* The named types of VPD 2.0. Nothing is required. */
 enum {
-    BOARDID_VPD_STRING = 0x01 /* key of one byte or more, all from a-z, A-Z, 0-9 and _, and no key
-                                 twice; any value */
+    BOARDID_VPD_STRING = 0x01 /* key of one byte or more, and no key twice; any value. A key that
+                                 is read has any bytes; one that is written has only a-z, A-Z, 0-9
+                                 and _ */
 };
 
 /*
@@ -115,7 +116,8 @@ enum {
                                        type 02h to FDh, or a fourth length byte that says another
                                        follows; Tiny tag 00h; at the entry's first byte */
     BOARDID_REFUSED_RULE = 7,       /* a named entry, or the new value of one, breaks the rule of
-                                       its code; at the entry's first byte */
+                                       its code; at the entry's first byte. Which bytes a VPD key
+                                       has is a reason in a write only */
     BOARDID_REFUSED_TWICE = 8,      /* a named code (VPD 01h: a key) comes a second time; at the
                                        first byte of the second entry */
     BOARDID_REFUSED_AFTER_POOL = 9, /* an entry after the pool; at its first byte */
@@ -266,6 +268,9 @@ enum {
 /*
  * One entry of an image: sixteen words in the order in which they lie in lent bytes. On a machine
  * whose words have the low byte first, an array of these may be lent as the bytes of records.
+ *
+ * The key and a value of plain bytes are any bytes, as many as their lengths say. A zero may stand
+ * in them and does not end them, and they may hold control bytes: do not print them as they are.
  */
 struct boardid_record {
     uint32_t code;
@@ -552,7 +557,8 @@ static inline uint64_t boardid_walk_step(uint8_t *walk, size_t walk_length, cons
  * Gives the length of the image, its end included. Every byte of out after it is FFh.
  * Refused: 16, 1, 2 for out; then field by field, each whole before the next, at the field's
  * number: 14, 13, 9, 7, 8; then 11; then 12 where the image does not fit in out, or a Tiny image
- * would have more than 255 bytes.
+ * would have more than 255 bytes. Of VPD 01h, 7 is also for a key with a byte other than a-z, A-Z,
+ * 0-9 and _, though an image with that key is read.
  */
 static inline uint64_t boardid_write_image(uint32_t format, const uint8_t *fields,
                                            size_t fields_length, const uint8_t *values,
@@ -564,8 +570,8 @@ static inline uint64_t boardid_write_image(uint32_t format, const uint8_t *field
 
 /*
  * Edits an image: puts the image with a new value of entry n into out. Every other entry keeps its
- * bytes and its order, also one that this edition does not name. The check is made anew. What
- * followed the image's end is not kept.
+ * bytes and its order, also one that this edition does not name. Of a VPD entry n the key stays as
+ * it is, whatever its bytes. The check is made anew. What followed the image's end is not kept.
  *
  * Gives the length of the new image, its end included. Every byte of out after it is FFh.
  * Refused: as boardid_check_image, with 2 for out too; then 13 where there is no entry n; then, at

@@ -9,6 +9,12 @@
 
 #include "expect.h"
 
+/* The key "lab.rack", which is read and is not written. */
+#define LAB_RACK "6C 61 62 2E 72 61 63 6B"
+
+/* A VPD image with the keys lab.rack, its length in two bytes, 22h of an FEh, and 22h 00h FFh. */
+#define NAMES "01 80 08 " LAB_RACK " 03 52 30 37 FE 01 22 04 01 02 03 04 01 03 22 00 FF 00 FF AA"
+
 /* What a call answers: a refusal's number and place, or 0, 0 and a count. */
 struct outcome {
     uint32_t number;
@@ -143,6 +149,30 @@ static const struct image_case image_cases[] = {
      "01 01 41 00 FE 01 41 04 01 02 03 04 00",
      {{0, 0, 2}, {0, 0, 2}}},
     {"D18: any key of FEh", 2, "FE 03 2E 2E 20 04 01 02 03 04 00", {{0, 0, 1}, {0, 0, 1}}},
+    {"VPD: lab.rack", 2, "01 08 " LAB_RACK " 03 52 30 37 00", {{0, 0, 1}, {0, 0, 1}}},
+    {"VPD: any keys", 2, NAMES, {{0, 0, 3}, {0, 0, 3}}},
+    {"VPD: lab.rack of 01h and FEh",
+     2,
+     "01 08 " LAB_RACK " 00 FE 08 " LAB_RACK " 04 01 02 03 04 00",
+     {{0, 0, 2}, {0, 0, 2}}},
+    {"VPD: lab.rack twice",
+     2,
+     "01 08 " LAB_RACK " 00 01 08 " LAB_RACK " 00 00",
+     {{8, 11, 0}, {8, 11, 0}}},
+    {"VPD: lab.rack twice, two forms of its length",
+     2,
+     "01 08 " LAB_RACK " 00 01 80 08 " LAB_RACK " 00 00",
+     {{8, 11, 0}, {8, 11, 0}}},
+    {"VPD: lab.rack, then an empty key",
+     2,
+     "01 08 " LAB_RACK " 00 01 00 00 00",
+     {{7, 11, 0}, {7, 11, 0}}},
+    {"VPD: keys 00h, FFh, 22h",
+     2,
+     "01 01 00 00 01 01 FF 00 01 01 22 00 00",
+     {{0, 0, 3}, {0, 0, 3}}},
+    {"VPD: key 00h twice", 2, "01 01 00 00 01 01 00 00 00", {{8, 4, 0}, {8, 4, 0}}},
+    {"VPD: a zero ends no key", 2, "01 01 41 00 01 02 41 00 00 00", {{0, 0, 2}, {0, 0, 2}}},
 
     {"Tiny: no entries", 3, "56 02 04 6F", {{0, 0, 0}, {0, 0, 0}}},
     {"Tiny: bytes from L on", 3, "56 02 04 6F 00 01", {{0, 0, 0}, {0, 0, 0}}},
@@ -425,6 +455,11 @@ static void records(void)
         {0xFE, 2, {11, 13, 0, 14, 4}, 0, {0, 0, 0, 0, 0, 0, 0}},
         {0x01, 1, {18, 20, 1, 22, 0}, 0, {0, 0, 0, 0, 0, 0, 0}},
     };
+    static const struct record_case names[] = {
+        {0x01, 1, {0, 3, 8, 12, 3}, 0, {0, 0, 0, 0, 0, 0, 0}},
+        {0xFE, 2, {15, 17, 1, 19, 4}, 0, {0, 0, 0, 0, 0, 0, 0}},
+        {0x01, 1, {23, 25, 3, 29, 0}, 0, {0, 0, 0, 0, 0, 0, 0}},
+    };
     static const struct record_case tiny[] = {
         {0x10, 1, {3, 4, 0, 4, 1}, 4, {1, 0, 0, 0, 0, 0, 0}},
         {0x11, 1, {5, 6, 0, 6, 1}, 5, {0xF5, 2, 0, 0, 0, 0, 0}},
@@ -441,6 +476,7 @@ static void records(void)
                    fboss, sizeof fboss / sizeof fboss[0], "records of FBOSS");
     expect_records(2, "01 80 03 53 4B 55 80 80 02 41 37 FE 00 04 01 02 03 04 01 01 5F 00 FF", vpd,
                    sizeof vpd / sizeof vpd[0], "records of VPD");
+    expect_records(2, NAMES, names, sizeof names / sizeof names[0], "records with any keys");
     expect_records(3,
                    "56 02 28 10 01 11 F5 60 02 1A 2B 3C 4D 5E 61 00 01 80 05 41 31 02 01 AA "
                    "81 00 01 99 63 00 FF 0F 27 01 04 41 C2 C3 44 DE",
@@ -577,6 +613,13 @@ static const struct write_case write_cases[] = {
      {{12, 0, 0}, {12, 0, 0}}, ""},
     {"a key outside the alphabet", 2, 1, {{1, 0, 3, 3, 2}}, "53 2E 55 41 37", 20,
      {{7, 0, 0}, {7, 0, 0}}, ""},
+    {"lab.rack", 2, 1, {{1, 0, 8, 0, 3}}, LAB_RACK, 20, {{7, 0, 0}, {7, 0, 0}}, ""},
+    {"lab, then lab.rack", 2, 2, {{1, 0, 3, 0, 3}, {1, 0, 8, 0, 3}}, LAB_RACK, 40,
+     {{7, 1, 0}, {7, 1, 0}}, ""},
+    {"lab, then an empty key", 2, 2, {{1, 0, 3, 0, 3}, {1, 3, 0, 0, 3}}, LAB_RACK, 40,
+     {{7, 1, 0}, {7, 1, 0}}, ""},
+    {"FEh with the key lab.rack", 2, 1, {{0xFE, 0, 8, 4, 4}}, LAB_RACK, 20,
+     {{14, 0, 0}, {0, 0, 16}}, "FE 08 " LAB_RACK " 04 72 61 63 6B 00"},
     {"FEh", 2, 2, {{1, 0, 3, 3, 2}, {0xFE, 0, 0, 0, 4}}, "53 4B 55 41 37", 20,
      {{14, 1, 0}, {0, 0, 16}}, "01 03 53 4B 55 02 41 37 FE 00 04 53 4B 55 41 00"},
     {"a key twice", 2, 2, {{1, 0, 1, 0, 0}, {1, 0, 1, 1, 1}}, "53 4B", 20,
@@ -702,6 +745,15 @@ static const struct edit_case edit_cases[] = {
      20, {{14, 8, 0}, {0, 0, 16}}, "01 03 53 4B 55 02 41 37 FE 00 04 05 06 07 08 00"},
     {"what is not named stays", 2, "01 03 53 4B 55 02 41 37 FE 80 00 80 04 01 02 03 04 00", 0, "",
      20, {{0, 0, 16}, {0, 0, 16}}, "01 03 53 4B 55 00 FE 80 00 80 04 01 02 03 04 00"},
+    {"lab.rack to B", 2, NAMES, 0, "42", 30, {{0, 0, 28}, {0, 0, 28}},
+     "01 80 08 " LAB_RACK " 01 42 FE 01 22 04 01 02 03 04 01 03 22 00 FF 00 00"},
+    {"lab.rack to B, no room", 2, NAMES, 0, "42", 27, {{12, 0, 0}, {12, 0, 0}}, ""},
+    {"FEh with the key 22h", 2, NAMES, 1, "05 06 07 08", 40, {{14, 15, 0}, {0, 0, 30}},
+     "01 80 08 " LAB_RACK " 03 52 30 37 FE 01 22 04 05 06 07 08 01 03 22 00 FF 00 00"},
+    {"key 22h 00h FFh", 2, NAMES, 2, "58", 31, {{0, 0, 31}, {0, 0, 31}},
+     "01 80 08 " LAB_RACK " 03 52 30 37 FE 01 22 04 01 02 03 04 01 03 22 00 FF 01 58 00"},
+    {"SKU beside lab.rack", 2, "01 08 " LAB_RACK " 00 01 03 53 4B 55 02 41 37 00", 1, "42", 20,
+     {{0, 0, 19}, {0, 0, 19}}, "01 08 " LAB_RACK " 00 01 03 53 4B 55 01 42 00"},
     {"D12: a pool", 3, "56 02 07 01 01 C1 8F", 0, "41 C2", 8, {{0, 0, 8}, {0, 0, 8}},
      "56 02 08 01 02 41 C2 DF"},
     {"Tiny: another length than the tag's", 3, "56 02 06 10 07 A2", 0, "00 00", 20,
@@ -739,6 +791,67 @@ static void edits(void)
         give_back(before);
         give_back(image);
     }
+}
+
+/* ---- Keys ----------------------------------------------------------------------------------- */
+
+/* Each byte as a key: every one is read and kept by an edit, and the alphabet's are written. */
+static void key_bytes(void)
+{
+    static const char alphabet[] = "abcdefghijklmnopqrstuvwxyz"
+                                   "ABCDEFGHIJKLMNOPQRSTUVWXYZ0123456789_";
+    static const struct boardid_field whole = {BOARDID_VPD_STRING, 2, 1, 4, 1};
+    struct lent image = lend_hex("01 01 00 01 42 00"), out = lend(image.length);
+    struct lent field = lend(BOARDID_FIELD_SIZE);
+    uint64_t answer;
+    int byte;
+
+    boardid_field_set(field.bytes, 0, whole);
+    for (byte = 0; byte < 256; byte++) {
+        image.bytes[2] = (uint8_t)byte;
+        expect_count(boardid_check_image(2, image.bytes, image.length), 1, "any key is read");
+        answer = boardid_edit_entry(2, image.bytes, image.length, 0, image.bytes + 4, 1, out.bytes,
+                                    out.length);
+        expect_count(answer, 6, "any key is edited");
+        expect(same_bytes(out, image), "an edit keeps any key");
+
+        memset(out.bytes, 0x5A, out.length);
+        answer = boardid_write_image(2, field.bytes, field.length, image.bytes, image.length,
+                                     out.bytes, out.length);
+        if (memchr(alphabet, byte, sizeof alphabet - 1) != NULL) {
+            expect_count(answer, 6, "a key of the alphabet is written");
+            expect(same_bytes(out, image), "a key of the alphabet is written as it is");
+        } else {
+            expect_refused(answer, 7, 0, "a key outside the alphabet is not written");
+            expect(all_are(out, 0, 0x5A), "a key outside the alphabet leaves the output");
+        }
+    }
+    give_back(field);
+    give_back(out);
+    give_back(image);
+}
+
+/* The most keys that an image can have: each byte alone, then as many of two bytes as there fit. */
+static void most_keys(void)
+{
+    const uint32_t count = 13158;
+    struct lent image = lend(BOARDID_IMAGE_MAX);
+    uint8_t *at = image.bytes;
+    uint32_t n;
+
+    memset(image.bytes, 0, image.length);
+    for (n = 0; n < count; n++) {
+        at[0] = BOARDID_VPD_STRING;
+        at[1] = n < 256 ? 1 : 2;
+        at[2] = (uint8_t)n;
+        at[3] = (uint8_t)(n >> 8); /* the second byte of the key, or the value's length, 0 */
+        at += at[1] + 3;
+    }
+    expect_count(boardid_check_image(2, image.bytes, image.length), count, "13,158 keys");
+    at[-2] = 1; /* a key that has come before */
+    expect_refused(boardid_check_image(2, image.bytes, image.length), 8, 65529,
+                   "13,158 keys, the last a second time");
+    give_back(image);
 }
 
 /* ---- Sizes ---------------------------------------------------------------------------------- */
@@ -874,6 +987,8 @@ int main(void)
     editions();
     writes();
     edits();
+    key_bytes();
+    most_keys();
     sizes();
     most_entries();
     return expectations_met("calls");

@@ -25,9 +25,11 @@ echo '# list'
 run list fboss fboss.bin
 run list vpd sku.vpd
 run list vpd board.vpd
+run list vpd names.vpd
 run list tiny tiny.bin
 run list-1 fboss fboss.bin
 run list-1 vpd board.vpd
+run list-1 vpd names.vpd
 run list-1 tiny tiny.bin
 
 echo '# list: what the samples do not show'
@@ -46,6 +48,12 @@ echo '# list: refusals and failures'
 run list vpd tiny.bin
 printf '\x01\x01A\x00\x01\x01A\x00\x00' >twice.vpd
 run list vpd twice.vpd
+printf '\x01\x08lab.rack\x00\x01\x08lab.rack\x00\x00' >same_name.vpd
+run list vpd same_name.vpd
+run list-1 vpd same_name.vpd
+printf '\x01\x08lab.rack\x00\x01\x00\x00\x00' >no_name.vpd
+run list vpd no_name.vpd
+run list-1 vpd no_name.vpd
 head -c 65537 /dev/zero >long.vpd
 run list vpd long.vpd
 head -c 65536 /dev/zero >longest.vpd
@@ -74,6 +82,12 @@ run edit -x vpd board.vpd 3 2a:02:03:b3:d5:7D
 run edit -x vpd board.vpd 0 00000080
 run edit vpd board.vpd 1 'a longer text than before'
 run list vpd board.vpd
+run edit vpd names.vpd 1 R11.4
+run edit vpd names.vpd 2 B
+run edit-1 vpd names.vpd 3 by_edition_1
+run list vpd names.vpd
+run list-1 vpd names.vpd
+run bytes names.vpd
 run edit fboss fboss.bin 0 SECOND_SQUEEZE
 run edit -x fboss fboss.bin 8 '0A'
 run edit -x fboss fboss.bin 16 '02 1A 2B 3C 4D 5E 00 10'
@@ -97,6 +111,8 @@ run edit vpd board.vpd 4 x
 run edit vpd board.vpd 18446744073709551615 x
 run edit fboss fboss.bin 12 20231301
 run edit fboss board.vpd 0 x
+run edit vpd same_name.vpd 0 x
+run edit vpd no_name.vpd 0 x
 run edit vpd long.vpd 0 x
 run edit vpd missing.vpd 0 x
 run edit vpd . 0 x

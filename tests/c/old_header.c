@@ -1,7 +1,8 @@
 /*
  * An old tool and a new one on the same images. This program is compiled once with each edition's
  * header, and each is linked with the one library. The images have, in each format, entries that
- * edition 2 names and edition 1 does not, and entries that neither names.
+ * edition 2 names and edition 1 does not, and entries that neither names; one has VPD keys that are
+ * read and not written.
  *
  *     old_header list FOLDER        expects this edition's kinds, and writes what every edition must
  *                                   list alike (codes, keys, values) to FOLDER/edition-N.list
@@ -61,6 +62,12 @@ static const struct image_case images[] = {
       {0xFE, 2, "00 00 00 2A"},
       {0x01, 1, "39 38 37 36 35 34 33 32 31"},
       {0x01, 1, ""}}},
+    {"names",
+     BOARDID_FORMAT_VPD,
+     "01 80 08 6C 61 62 2E 72 61 63 6B 03 52 30 37 FE 01 22 80 04 01 02 03 04 "
+     "01 03 22 00 FF 80 00 01 03 53 4B 55 02 41 37 FF AA",
+     4,
+     {{0x01, 1, "42"}, {0xFE, 2, "00 00 00 2A"}, {0x01, 1, "00 FF 22"}, {0x01, 1, ""}}},
     {"tiny",
      BOARDID_FORMAT_TINY,
      "56 02 3E 80 00 01 80 05 41 31 2A 00 10 00 23 AA BB 11 05 81 01 00 63 63 42 32 0F 27 "
@@ -255,6 +262,12 @@ static void expect_one_change(const struct image_case *c, struct lent image, str
         expect(same_part(image, a.key_place, a.key_length, edited, b.key_place, b.key_length),
                c->name);
         if (k == n) {
+            /* In VPD all before the value's length is the same: type, key's length bytes, key. */
+            if (c->format == BOARDID_FORMAT_VPD) {
+                expect(same_part(image, a.place, a.key_place + a.key_length - a.place, edited,
+                                 b.place, b.key_place + b.key_length - b.place),
+                       c->name);
+            }
             expect(same_part(value, 0, (uint32_t)value.length, edited, b.value_place,
                              b.value_length),
                    c->name);
