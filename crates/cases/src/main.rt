@@ -1,4 +1,4 @@
-// Runs the cases that 01 marks Run, 000's full example, 002's, and a write: a line for each, "ok" or "WRONG".
+// Runs the cases that 01 marks Run, 000's full example, 002's, a write, and 02's name with a dot: a line for each, "ok" or "WRONG".
 use layout::Checked;
 use layout::Entry;
 use layout::Lookup;
@@ -290,6 +290,40 @@ fn is_not_written(fields: &[u8]) -> bool {
     is_unmade(m, 13, 0) & parts::same_bytes(&out, b"\xAA\xAA\xAA\xAA\xAA\xAA\xAA\xAA\xAA\xAA")
 }
 
+// The name "lab.rack" is kept by an edit of its value.
+fn is_name_kept(image: &[u8]) -> bool {
+    let mut out = [0xAAu8; 16];
+    let m = editor::edit_entry(&mut out, 2, 1, image, 0, b"R17");
+    is_made(m, 15) & parts::same_bytes(&out, b"\x01\x08lab.rack\x03R17\x00\xFF")
+}
+
+// The same name in a write: 7, with the field's number, and the output stays as it was.
+fn is_name_not_written(fields: &[u8]) -> bool {
+    let mut out = [0xAAu8; 4];
+    let m = writer::write_image(&mut out, 2, 2, fields, b"lab.rackR2");
+    is_unmade(m, 7, 0) & parts::same_bytes(&out, b"\xAA\xAA\xAA\xAA")
+}
+
+fn run_names(image: &[u8], fields: &[u8]) {
+    say(b"lab.rack", has_pair(image, 0, b"lab.rack", b"R2"));
+    say(b"lab.rack edited", is_name_kept(image));
+    say(b"lab.rack written, refused", is_name_not_written(fields));
+    say(
+        b"lab.rack twice, refused",
+        is_refused(
+            2,
+            1,
+            b"\x01\x08lab.rack\x02R2\x01\x08lab.rack\x02R2\x00",
+            8,
+            13,
+        ),
+    );
+    say(
+        b"vpd with an empty key, refused",
+        is_refused(2, 2, b"\x01\x00\x00\x00", 7, 0),
+    );
+}
+
 fn run_edits(image: &[u8]) {
     say(b"sku edited in ten bytes", is_edited(image));
     say(b"sku edited in seven bytes, refused", is_not_edited(image));
@@ -326,5 +360,9 @@ fn main() {
     run_pairs();
     run_edits(b"\x01\x03SKU\x02A7\x00");
     run_writes(b"\x01\x00\x00\x00\x00\x00\x00\x00\x03\x00\x00\x00\x03\x00\x00\x00\x02\x00\x00\x00");
+    run_names(
+        b"\x01\x08lab.rack\x02R2\x00",
+        b"\x01\x00\x00\x00\x00\x00\x00\x00\x08\x00\x00\x00\x08\x00\x00\x00\x02\x00\x00\x00",
+    );
     run_pool(b"\x56\x02\x0E\x10\x00\x01\x06AB\xC3D\xC5F\x2F");
 }
