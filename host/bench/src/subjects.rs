@@ -1,10 +1,11 @@
 //! What is timed: images from one board's to the largest that there are.
 
+use images::fboss;
 use images::fields::List;
 use images::generate::{kept, named};
 use images::image::{Entry, Format, Image, LONGEST};
 use images::random::Random;
-use images::{fboss, vpd};
+use images::vpd::{self, Rule};
 
 /// One image with what the calls on it take.
 pub struct Board {
@@ -184,7 +185,7 @@ fn full_fboss(random: &mut Random, value_length: usize) -> Board {
 
 /// A VPD image of the longest size with distinct keys and values of about one length.
 fn full_vpd(random: &mut Random, value_length: usize) -> Board {
-    let entries = vpd::filling(random, LONGEST, value_length);
+    let entries = vpd::filling(random, Rule::Writer, LONGEST, value_length);
     let value = random.bytes(entries[entries.len() / 2].value.len());
     board(Format::Vpd, entries, LONGEST, value)
 }
