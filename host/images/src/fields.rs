@@ -93,6 +93,10 @@ pub fn list(random: &mut Random, format: Format, edition: u32) -> List {
             field[KEY + 1] = random.number() as u32;
         }
     }
+    if format == Format::Vpd && !list.fields.is_empty() && random.once_in(4) {
+        let at = random.below(list.fields.len());
+        break_rule(random, format, &mut list, at);
+    }
     for _ in 0..random.pick(&[0, 0, 1, 1, 2, 3]) {
         spoil(random, format, &mut list);
     }
@@ -193,17 +197,7 @@ fn spoil(random: &mut Random, format: Format, list: &mut List) {
         6 => {
             list.fields.remove(at);
         }
-        // A key that breaks the writer's rule, or a value that breaks its own.
-        7 | 8 if format == Format::Vpd && list.fields[at][CODE] == u32::from(VPD_STRING) => {
-            let key = vpd::broken_key(random, Rule::Writer);
-            let key = list.part(&key);
-            list.fields[at][KEY..VALUE].copy_from_slice(&key);
-        }
-        7 | 8 => {
-            let value = broken(random, format, list.fields[at][CODE] as u8);
-            let value = list.part(&value);
-            list.fields[at][VALUE..].copy_from_slice(&value);
-        }
+        7 | 8 => break_rule(random, format, list, at),
         // A value of a length on either side of a line.
         9 => {
             let value = offered(random, format, list.fields[at][CODE] as u8);
@@ -221,6 +215,20 @@ fn spoil(random: &mut Random, format: Format, list: &mut List) {
             let other = random.below(count);
             list.fields.swap(at, other);
         }
+    }
+}
+
+/// Gives a field a key that breaks the writer's rule, or a value that breaks the rule of its code.
+fn break_rule(random: &mut Random, format: Format, list: &mut List, at: usize) {
+    let code = list.fields[at][CODE];
+    if format == Format::Vpd && code == u32::from(VPD_STRING) {
+        let key = vpd::broken_key(random, Rule::Writer);
+        let key = list.part(&key);
+        list.fields[at][KEY..VALUE].copy_from_slice(&key);
+    } else {
+        let value = broken(random, format, code as u8);
+        let value = list.part(&value);
+        list.fields[at][VALUE..].copy_from_slice(&value);
     }
 }
 
