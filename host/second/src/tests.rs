@@ -980,6 +980,9 @@ mod writes {
             Ok(b"\xfe\x08gVpdInfo\x04\x09\0\0\0\0".to_vec())
         );
         assert_eq!(written(VPD, 2, &[info, info], 100), refused(8, 1));
+        // A second one that is wrong by itself is that first.
+        let wrong: (u32, &[u8], &[u8]) = (0xFE, b"gVpdInfo", b"\x09\0\0");
+        assert_eq!(written(VPD, 2, &[info, wrong], 100), refused(7, 1));
         assert_eq!(
             written(VPD, 2, &[(1, b"a", b"1"), (1, b"a", b"2")], 100),
             refused(8, 1)
@@ -1426,7 +1429,8 @@ mod vpd_names {
                     parts.insert(number, (1, key, b"v"));
                     let refusal = refused(7, number as u64);
                     assert_eq!(written(VPD, edition, &parts, 200), refusal);
-                    // It comes before a second key and before an output that is too small.
+                    // It comes before the same key in a later field, and before an output that is
+                    // too small.
                     parts.insert(number, (1, key, b"v"));
                     assert_eq!(written(VPD, edition, &parts, 0), refusal);
                     // A field before it that is refused comes first.

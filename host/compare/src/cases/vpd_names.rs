@@ -251,7 +251,7 @@ pub fn written(compare: &mut Comparison) {
                 let mut fields = good.to_vec();
                 fields.insert(number, (1, key, b"v"));
                 write(&fields, 100, refusal);
-                // 7 comes before 8 of the same field, before what is wrong later, and before 12.
+                // It comes before what is wrong with later fields, and before 12.
                 fields.insert(number + 1, (1, key, b"v"));
                 fields.push((2, b"k", b""));
                 write(&fields, 100, refusal);
@@ -273,6 +273,22 @@ pub fn written(compare: &mut Comparison) {
         let (fields, values) = listed(&[(1, &[b'.'; 70_000], b"")]);
         let call = Call::write(VPD, edition, &fields, &values, LONGEST);
         compare.case("7, then 12", &call, refused(7, 0), None);
+
+        // A second FEh whose value is wrong is 7, and else 8, whatever the keys.
+        if edition == 2 {
+            for (key, value, number) in [
+                (&b"a.b"[..], &b"123"[..], 7),
+                (b"a.b", b"1234", 8),
+                (b"", b"1234", 8),
+            ] {
+                compare.next_case();
+                let (fields, values) = listed(&[(0xFE, b"a.b", b"1234"), (0xFE, key, value)]);
+                let call = Call::write(VPD, edition, &fields, &values, 100);
+                compare.case("7, then 8", &call, refused(number, 1), None);
+                let image = image(&[entry(0xFE, b"a.b", b"1234"), entry(0xFE, key, value)]);
+                checked_in(compare, VPD, edition, &hex(&image), refused(number, 10));
+            }
+        }
 
         // An FEh is written with any key, and none.
         for key in UNWRITTEN.into_iter().chain([&b""[..], b"gVpdInfo"]) {
