@@ -70,19 +70,8 @@ fn of_keys(keys: &[&[u8]]) -> Vec<u8> {
 
 /// The record of a named 01h whose lengths have one byte each.
 fn record_of(place: usize, key: &[u8], value: &[u8]) -> Vec<u8> {
-    let (key_place, value_place) = (place + 2, place + 3 + key.len());
-    record(
-        &[
-            1,
-            513,
-            place,
-            key_place,
-            key.len(),
-            value_place,
-            value.len(),
-        ]
-        .map(|word| word as u32),
-    )
+    let [place, key, value] = [place, key.len(), value.len()].map(|number| number as u32);
+    record(&[1, 513, place, place + 2, key, place + 3 + key, value])
 }
 
 /// What every call refuses, in both editions.
