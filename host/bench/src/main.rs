@@ -16,6 +16,9 @@ use subjects::{Board, Subject};
 const RECORD: usize = 64;
 const EDITION: u32 = 2;
 
+/// The name of the call that an image without fields has no row of.
+const WRITE: &str = "write";
+
 /// A call on one board, into memory that is lent for it: the answer.
 type Call = fn(u32, &Board, &mut [u8]) -> u64;
 
@@ -90,7 +93,7 @@ const CALLS: [Timed; 5] = [
         },
     },
     Timed {
-        name: "write",
+        name: WRITE,
         room: |board| board.image.len(),
         library: |format, board, out| {
             let (fields, fields_length) = (board.fields.as_ptr(), board.fields.len());
@@ -130,7 +133,10 @@ fn main() -> ExitCode {
     println!("| image | entries | call | library | second | library/second |");
     println!("|---|---:|---|---:|---:|---:|");
     for subject in subjects::all() {
-        for timed in &CALLS {
+        let calls = CALLS
+            .iter()
+            .filter(|timed| timed.name != WRITE || subject.is_written());
+        for timed in calls {
             let Some((library, second)) = row(&subject, timed, Duration::from_secs_f64(seconds))
             else {
                 println!(

@@ -1,10 +1,11 @@
 //! What is timed: images from one board's to the largest that there are.
 
+use images::fboss;
 use images::fields::List;
 use images::generate::{kept, named};
 use images::image::{Entry, Format, Image, LONGEST};
 use images::random::Random;
-use images::{fboss, vpd};
+use images::vpd::{self, Rule};
 
 /// One image with what the calls on it take.
 pub struct Board {
@@ -13,7 +14,7 @@ pub struct Board {
     /// The middle entry, which is a named one, and another value of the same length for it.
     pub middle: u64,
     pub value: Vec<u8>,
-    /// The fields of a write and their values.
+    /// The fields of a write and their values. There are none where the image can't be written.
     pub fields: Vec<u8>,
     pub values: Vec<u8>,
 }
@@ -29,6 +30,11 @@ impl Subject {
     /// How many entries there are in all.
     pub fn entries(&self) -> usize {
         self.boards.iter().map(|board| board.entries).sum()
+    }
+
+    /// Whether there is a write to be timed.
+    pub fn is_written(&self) -> bool {
+        self.boards.iter().all(|board| !board.fields.is_empty())
     }
 }
 
@@ -64,6 +70,11 @@ pub fn all() -> Vec<Subject> {
             "VPD, 65,536 bytes",
             Format::Vpd,
             vec![full_vpd(&mut random, 0)],
+        ),
+        subject(
+            "VPD, 65,536 bytes",
+            Format::Vpd,
+            vec![most_keys(&mut random)],
         ),
     ]
 }
@@ -182,9 +193,23 @@ fn full_fboss(random: &mut Random, value_length: usize) -> Board {
     board
 }
 
-/// A VPD image of the longest size with distinct keys and values of about one length.
+/// A VPD image of the longest size with distinct keys that a writer takes, and values of about one
+/// length.
 fn full_vpd(random: &mut Random, value_length: usize) -> Board {
-    let entries = vpd::filling(random, LONGEST, value_length);
+    let entries = vpd::filling(random, Rule::Writer, LONGEST, value_length);
     let value = random.bytes(entries[entries.len() / 2].value.len());
     board(Format::Vpd, entries, LONGEST, value)
+}
+
+/// A VPD image of the longest size with as many distinct keys as there can be, in mixed order. No
+/// writer takes them all, so there is no write.
+fn most_keys(random: &mut Random) -> Board {
+    let mut entries = vpd::filling(random, Rule::Reader, LONGEST, 0);
+    random.shuffle(&mut entries);
+    let value = random.bytes(entries[entries.len() / 2].value.len());
+    Board {
+        fields: Vec::new(),
+        values: Vec::new(),
+        ..board(Format::Vpd, entries, LONGEST, value)
+    }
 }

@@ -7,6 +7,7 @@ mod decisions;
 mod scope;
 mod sources;
 mod sweeps;
+mod vpd_names;
 
 use crate::call::{walk_bytes, Call};
 use crate::comparison::{Comparison, RECORD};
@@ -14,7 +15,7 @@ use crate::comparison::{Comparison, RECORD};
 pub type Group = fn(&mut Comparison);
 
 /// All fixed cases, in groups that can be compared side by side.
-pub const GROUPS: [(&str, Group); 17] = [
+pub const GROUPS: [(&str, Group); 22] = [
     (
         "01, Both sides of each line",
         scope::both_sides_of_each_line,
@@ -27,6 +28,11 @@ pub const GROUPS: [(&str, Group); 17] = [
     ("decisions on writing", decisions::on_writing),
     ("decisions on lengths", decisions::on_lengths),
     ("largest images", decisions::largest_images),
+    ("02, VPD names with dots: read", vpd_names::read),
+    ("02, VPD names with dots: edited", vpd_names::edited),
+    ("02, VPD names with dots: written", vpd_names::written),
+    ("every byte of a VPD key", vpd_names::every_key_byte),
+    ("numbers of VPD keys", vpd_names::numbers_of_keys),
     ("every format and edition", sweeps::every_format_and_edition),
     ("every length", sweeps::every_length),
     ("every byte of an FBOSS image", sweeps::fboss_bytes),

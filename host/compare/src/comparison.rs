@@ -1,5 +1,7 @@
 //! One call on the library and on the second reader, and the comparison of all that they leave.
 
+use std::collections::BTreeMap;
+
 use crate::call::{count, refusal, told, Call, Kind, NAMES};
 use crate::crash::{self, Input};
 use crate::lent::{filled, Layout, Lent};
@@ -7,11 +9,25 @@ use crate::lent::{filled, Layout, Lent};
 /// How long a record is, in bytes.
 pub const RECORD: usize = 64;
 
+/// The numbers that each call can give back (01, Numbers given back), in the order of `NAMES`.
+const CAN_GIVE: [&[usize]; 8] = [
+    &[1, 2, 3, 4, 5, 6, 7, 8, 9, 10, 11, 16],
+    &[1, 2, 3, 4, 5, 6, 7, 8, 9, 10, 11, 12, 16],
+    &[1, 2, 3, 4, 5, 6, 7, 8, 9, 10, 11, 12, 13, 16],
+    &[1, 2, 3, 4, 5, 6, 7, 8, 9, 10, 11, 13, 16],
+    &[1, 2, 3, 4, 5, 6, 7, 8, 9, 10, 15, 16],
+    &[1, 2, 3, 4, 5, 6, 7, 8, 9, 10, 11, 12, 13, 16],
+    &[1, 2, 7, 8, 9, 11, 12, 13, 14, 16],
+    &[1, 2, 3, 4, 5, 6, 7, 8, 9, 10, 11, 12, 13, 14, 16],
+];
+
 /// What was compared, in numbers.
 #[derive(Clone, Default)]
 pub struct Tally {
     pub inputs: u64,
     pub differences: u64,
+    /// Differences by call, by the number that the library gave back and by the second reader's.
+    differing: BTreeMap<(usize, usize, usize), u64>,
     /// Calls by kind and by the number given back, 0 where nothing was refused.
     pub answers: [[u64; 17]; 8],
     /// Records given, by reading.
@@ -25,6 +41,9 @@ impl Tally {
         self.inputs += other.inputs;
         self.differences += other.differences;
         self.unnamed += other.unnamed;
+        for (&class, count) in &other.differing {
+            *self.differing.entry(class).or_default() += count;
+        }
         for (sum, row) in self.answers.iter_mut().zip(&other.answers) {
             for (sum, count) in sum.iter_mut().zip(row) {
                 *sum += count;
@@ -56,6 +75,36 @@ impl Tally {
             }
         }
         table
+    }
+
+    /// The numbers that a call can give back and never did, nothing refused being one.
+    pub fn never_given(&self) -> Vec<String> {
+        let calls = NAMES.iter().zip(CAN_GIVE).zip(&self.answers);
+        calls
+            .flat_map(|((name, numbers), row)| {
+                let numbers = [0].iter().chain(numbers);
+                numbers
+                    .filter(|&&number| row[number] == 0)
+                    .map(move |number| format!("{name} {number}"))
+            })
+            .collect()
+    }
+
+    /// The differences: a line for each call and for what library and second reader gave.
+    pub fn classes(&self) -> String {
+        let shown = |number| match number {
+            0 => "given".to_string(),
+            _ => format!("{number}"),
+        };
+        let lines = self
+            .differing
+            .iter()
+            .map(|(&(call, library, second), count)| {
+                let [library, second] = [library, second].map(shown);
+                let name = NAMES[call];
+                format!("\n  {name:<7}library {library:<6} second reader {second:<6} {count:>9}")
+            });
+        format!("differences by call:{}", lines.collect::<String>())
     }
 
     /// The records that were compared, by reading.
@@ -207,6 +256,8 @@ impl Comparison {
 
     fn differs(&mut self, call: &Call, wrong: &str, library: u64, second: u64) {
         self.tally.differences += 1;
+        let class = (call.kind as usize, refusal(library), refusal(second));
+        *self.tally.differing.entry(class).or_default() += 1;
         if self.difference.is_some() {
             return;
         }

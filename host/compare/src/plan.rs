@@ -75,6 +75,7 @@ fn on_accepted(
     }
     let n = number(random, entries);
     compare.call(&check.edit(n, b"1", check.read[0].len() + 1));
+    written_again(compare, random, check);
 }
 
 fn on_large(
@@ -96,6 +97,7 @@ fn on_large(
         edits(compare, random, format, check, n);
         edits(compare, random, format, check, entries - 1);
     }
+    written_again(compare, random, check);
 }
 
 /// Lists into as many records as there are entries, into one less, and into more.
@@ -147,6 +149,24 @@ fn edits(compare: &mut Comparison, random: &mut Random, format: Format, check: &
     };
     let n = n as u64;
     into_outputs(compare, random, &check.edit(n, &value, 0));
+}
+
+/// A write of an image's own entries, whose keys and values are lent as they lie in the image. A VPD
+/// name that only a reader takes is refused at its number, and so is an unnamed code.
+fn written_again(compare: &mut Comparison, random: &mut Random, check: &Call) {
+    let image = check.read[0];
+    let entries = second::list(check.format, check.edition, image, usize::MAX).unwrap_or_default();
+    let fields: Vec<u8> = entries
+        .iter()
+        .flat_map(|entry| {
+            let key = [entry.key_place, entry.key_len];
+            let value = [entry.value_place, entry.value_len];
+            [[entry.code].as_slice(), &key, &value].concat()
+        })
+        .flat_map(u32::to_le_bytes)
+        .collect();
+    let call = Call::write(check.format, check.edition, &fields, image, 0);
+    into_outputs(compare, random, &call);
 }
 
 /// Makes a write or an edit into outputs on both sides of the line.

@@ -3,7 +3,8 @@
 use crate::generate::{broken, kept};
 use crate::image::{seal, Entry, Format, Image, FBOSS_END, POOL, VPD_INFO, VPD_STRING};
 use crate::random::Random;
-use crate::{fboss, tiny, vpd};
+use crate::vpd::{self, Rule};
+use crate::{fboss, tiny};
 
 /// The bytes of an image with one to three things wrong, the check made right again in most.
 pub fn damaged(random: &mut Random, mut image: Image) -> Vec<u8> {
@@ -51,11 +52,13 @@ fn damage_entries(random: &mut Random, image: &mut Image) {
         2 if count > 0 => {
             image.entries.remove(place);
         }
-        // A value that breaks the rule, or a key that does.
+        // A value that breaks the reader's rule, or a key that does.
         3 | 4 if count > 0 => {
             let entry = &mut image.entries[place];
             match format {
-                Format::Vpd if entry.code == VPD_STRING => entry.key = vpd::broken_key(random),
+                Format::Vpd if entry.code == VPD_STRING => {
+                    entry.key = vpd::broken_key(random, Rule::Reader)
+                }
                 _ => entry.value = broken(random, format, entry.code),
             }
         }

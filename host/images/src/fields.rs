@@ -1,9 +1,10 @@
 //! Generated field lists for a write.
 
+use crate::fboss;
 use crate::generate::{broken, kept, named, offered};
 use crate::image::{Format, LONGEST, POOL, VPD_INFO, VPD_STRING};
 use crate::random::Random;
-use crate::{fboss, vpd};
+use crate::vpd::{self, Rule};
 
 /// A field's five words: code, key place, key length, value place, value length.
 type Field = [u32; 5];
@@ -57,14 +58,19 @@ pub fn list(random: &mut Random, format: Format, edition: u32) -> List {
         codes.sort_by_key(|&code| code == POOL);
     }
     let careful = random.once_in(2);
+    // A list of keys that a reader takes is refused at the first that is outside the alphabet.
+    let rule = match format == Format::Vpd && !careful && random.once_in(3) {
+        true => Rule::Reader,
+        false => Rule::Writer,
+    };
     let mut last_key = Vec::new();
     for code in codes {
         let key = match format {
-            Format::Vpd if !careful && random.once_in(12) => vpd::broken_key(random),
+            Format::Vpd if !careful && random.once_in(12) => vpd::broken_key(random, rule),
             Format::Vpd if !last_key.is_empty() && random.once_in(4) => {
-                vpd::similar_key(random, &last_key)
+                vpd::similar_key(random, rule, &last_key)
             }
-            Format::Vpd => vpd::kept_key(random, code),
+            Format::Vpd => vpd::kept_key(random, rule, code),
             _ => Vec::new(),
         };
         let value = match careful || !random.once_in(12) {
@@ -76,7 +82,9 @@ pub fn list(random: &mut Random, format: Format, edition: u32) -> List {
             list.values.extend(random.bytes(gap));
         }
         list.add(u32::from(code), &key, &value);
-        last_key = key;
+        if code == VPD_STRING {
+            last_key = key;
+        }
     }
     if format != Format::Vpd && random.once_in(2) {
         // Outside VPD a key is not looked at, wherever it lies.
@@ -84,6 +92,10 @@ pub fn list(random: &mut Random, format: Format, edition: u32) -> List {
             field[KEY] = random.number() as u32;
             field[KEY + 1] = random.number() as u32;
         }
+    }
+    if format == Format::Vpd && !list.fields.is_empty() && random.once_in(4) {
+        let at = random.below(list.fields.len());
+        break_rule(random, format, &mut list, at);
     }
     for _ in 0..random.pick(&[0, 0, 1, 1, 2, 3]) {
         spoil(random, format, &mut list);
@@ -185,12 +197,7 @@ fn spoil(random: &mut Random, format: Format, list: &mut List) {
         6 => {
             list.fields.remove(at);
         }
-        // A value that breaks its rule.
-        7 | 8 => {
-            let value = broken(random, format, list.fields[at][CODE] as u8);
-            let value = list.part(&value);
-            list.fields[at][VALUE..].copy_from_slice(&value);
-        }
+        7 | 8 => break_rule(random, format, list, at),
         // A value of a length on either side of a line.
         9 => {
             let value = offered(random, format, list.fields[at][CODE] as u8);
@@ -211,6 +218,20 @@ fn spoil(random: &mut Random, format: Format, list: &mut List) {
     }
 }
 
+/// Gives a field a key that breaks the writer's rule, or a value that breaks the rule of its code.
+fn break_rule(random: &mut Random, format: Format, list: &mut List, at: usize) {
+    let code = list.fields[at][CODE];
+    if format == Format::Vpd && code == u32::from(VPD_STRING) {
+        let key = vpd::broken_key(random, Rule::Writer);
+        let key = list.part(&key);
+        list.fields[at][KEY..VALUE].copy_from_slice(&key);
+    } else {
+        let value = broken(random, format, code as u8);
+        let value = list.part(&value);
+        list.fields[at][VALUE..].copy_from_slice(&value);
+    }
+}
+
 /// A list whose image has thousands of bytes, or more than an output may have.
 pub fn large(random: &mut Random, format: Format) -> List {
     let mut list = List::default();
@@ -225,10 +246,16 @@ pub fn large(random: &mut Random, format: Format) -> List {
             }
         }
         Format::Vpd => match random.below(3) {
-            // Many keys, to the largest number that an output can hold and one more.
+            // Many keys, to the largest number that an output can hold and one more. In some lists
+            // one of them, anywhere, breaks the writer's rule.
             0 => {
-                for number in 0..random.pick(&[3_000, 11_604, 11_605, 11_606]) {
-                    list.add(1, &vpd::numbered_key(number), &[]);
+                let count = random.pick(&[3_000, 11_604, 11_605, 11_606]);
+                let mut entries = vpd::distinct(Rule::Writer, count);
+                if random.once_in(3) {
+                    entries[random.below(count)].key = vpd::broken_key(random, Rule::Writer);
+                }
+                for entry in entries {
+                    list.add(1, &entry.key, &[]);
                 }
             }
             // One value that fills the output, or is one byte too long for it.

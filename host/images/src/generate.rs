@@ -2,7 +2,8 @@
 
 use crate::image::{after_the_end, Entry, Format, Image, LONGEST, POOL};
 use crate::random::Random;
-use crate::{fboss, tiny, vpd};
+use crate::vpd::{self, Rule};
+use crate::{fboss, tiny};
 
 /// The codes that an edition names.
 pub fn named(format: Format, edition: u32) -> Vec<u8> {
@@ -81,8 +82,14 @@ pub fn large(random: &mut Random, format: Format) -> Image {
     let value_length = random.pick(&[0, 0, 1, 20, 255, 700, LONGEST]);
     let entries: Vec<Entry> = match format {
         Format::Fboss => fboss::filling(random, length, value_length.min(255)),
-        Format::Vpd if random.once_in(4) => vpd::shortest(length),
-        Format::Vpd => vpd::filling(random, length, value_length),
+        Format::Vpd => match random.below(8) {
+            0 | 1 => vpd::shortest(length),
+            2..=4 => vpd::many_keys(random),
+            _ => {
+                let rule = random.pick(&[Rule::Reader, Rule::Writer]);
+                vpd::filling(random, rule, length, value_length)
+            }
+        },
         Format::Tiny => tiny::shortest(random),
     };
     let mut image = Image::new(format, entries);

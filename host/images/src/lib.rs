@@ -1,7 +1,8 @@
 //! Images and field lists of every format, generated from a seed: good ones, damaged ones, and the
 //! largest that there are.
 //!
-//! This is written from the scope document and shares no code with the library or the second reader.
+//! This is written from the scope document and the change requests, and shares no code with the
+//! library or the second reader.
 
 pub mod checks;
 pub mod damage;

@@ -34,9 +34,9 @@ pub(crate) fn required(format: Format) -> &'static [u8] {
     }
 }
 
-/// Whether a named entry keeps the rule of its code.
+/// Whether a named entry keeps the rule of its code, as a reader has it.
 ///
-/// Values to be written come here too, so the rule also says how long a value may be.
+/// The new value of an edit comes here too, so the rule also says how long a value may be.
 pub(crate) fn keeps_rule(format: Format, code: u8, key: &[u8], value: &[u8]) -> bool {
     match (format, code) {
         (Format::Fboss, 3) => value.len() == 8 && is_text(value),
@@ -47,7 +47,7 @@ pub(crate) fn keeps_rule(format: Format, code: u8, key: &[u8], value: &[u8]) -> 
         (Format::Fboss, _) => value.len() <= 255 && is_text(value),
 
         (Format::Vpd, VPD_INFO) => value.len() == 4,
-        (Format::Vpd, _) => !key.is_empty() && key.iter().all(|&byte| is_key_byte(byte)),
+        (Format::Vpd, _) => !key.is_empty(),
 
         (Format::Tiny, POOL) => value.len() <= 255,
         (Format::Tiny, 0x61 | 0x62) => match *value {
@@ -64,10 +64,21 @@ pub(crate) fn keeps_rule(format: Format, code: u8, key: &[u8], value: &[u8]) -> 
     }
 }
 
+/// Whether a field keeps the rule of its code, as a writer has it: the reader's rule, and for VPD
+/// type 01h a key that is all in the narrow alphabet (02, VPD names with dots).
+pub(crate) fn keeps_writers_rule(format: Format, code: u8, key: &[u8], value: &[u8]) -> bool {
+    let in_alphabet = match (format, code) {
+        (Format::Vpd, VPD_STRING) => key.iter().all(|&byte| is_key_byte(byte)),
+        _ => true,
+    };
+    keeps_rule(format, code, key, value) && in_alphabet
+}
+
 fn is_text(value: &[u8]) -> bool {
     value.iter().all(|byte| matches!(byte, 0x20..=0x7E))
 }
 
+/// The alphabet of a key to be written: a-z, A-Z, 0-9 and underscore.
 fn is_key_byte(byte: u8) -> bool {
     byte.is_ascii_alphanumeric() || byte == b'_'
 }
@@ -224,17 +235,76 @@ mod tests {
 
     #[test]
     fn vpd_rules() {
-        let keeps = |code, key: &[u8], value: &[u8]| keeps_rule(Format::Vpd, code, key, value);
-        assert!(keeps(VPD_STRING, b"azAZ09_", b""));
-        assert!(!keeps(VPD_STRING, b"", b""));
+        let reader = |code, key: &[u8], value: &[u8]| keeps_rule(Format::Vpd, code, key, value);
+        let writer =
+            |code, key: &[u8], value: &[u8]| keeps_writers_rule(Format::Vpd, code, key, value);
+        for keeps in [reader, writer] {
+            assert!(keeps(VPD_STRING, b"azAZ09_", b""));
+            assert!(!keeps(VPD_STRING, b"", b""));
+            assert!(!keeps(VPD_STRING, b"", b"1234"));
+            for key in [&b""[..], b"gVpdInfo", b"lab.rack", b"\x00\xFF\x80"] {
+                assert!(!keeps(VPD_INFO, key, b""));
+                assert!(!keeps(VPD_INFO, key, b"123"));
+                assert!(keeps(VPD_INFO, key, b"1234"));
+                assert!(!keeps(VPD_INFO, key, b"12345"));
+            }
+        }
+        assert!(reader(VPD_STRING, b"lab.rack", b"x"));
+        assert!(!writer(VPD_STRING, b"lab.rack", b"x"));
         for byte in 0..=255u8 {
             let good = b"abcdefghijklmnopqrstuvwxyzABCDEFGHIJKLMNOPQRSTUVWXYZ0123456789_";
-            assert_eq!(keeps(VPD_STRING, &[byte], b"x"), good.contains(&byte));
-            assert!(keeps(VPD_INFO, &[byte], b"1234"));
+            for key in [
+                &[byte][..],
+                &[byte, b'k'],
+                &[b'k', byte, b'k'],
+                &[b'k', byte],
+            ] {
+                assert!(reader(VPD_STRING, key, b"x"));
+                assert_eq!(writer(VPD_STRING, key, b"x"), good.contains(&byte));
+                assert!(reader(VPD_INFO, key, b"1234"));
+                assert!(writer(VPD_INFO, key, b"1234"));
+            }
         }
-        assert!(keeps(VPD_INFO, b"", b"1234"));
-        assert!(!keeps(VPD_INFO, b"gVpdInfo", b"123"));
-        assert!(!keeps(VPD_INFO, b"gVpdInfo", b"12345"));
+    }
+
+    /// The last byte before each range of the alphabet, its first, its last, and the first after it.
+    #[test]
+    fn both_sides_of_the_alphabet() {
+        for (range, outside) in [
+            ([0x30, 0x39], [0x2F, 0x3A]),
+            ([0x41, 0x5A], [0x40, 0x5B]),
+            ([0x5F, 0x5F], [0x5E, 0x60]),
+            ([0x61, 0x7A], [0x60, 0x7B]),
+        ] {
+            for (bytes, written) in [(range, true), (outside, false)] {
+                for key in bytes.map(|byte: u8| [byte]) {
+                    assert!(keeps_rule(Format::Vpd, VPD_STRING, &key, b""));
+                    let keeps = keeps_writers_rule(Format::Vpd, VPD_STRING, &key, b"");
+                    assert_eq!(keeps, written);
+                }
+            }
+        }
+    }
+
+    /// Outside VPD 01h a writer's rule is the reader's, whatever key is given.
+    #[test]
+    fn one_rule_for_reader_and_writer() {
+        for (format, code, value) in [
+            (Format::Fboss, 1, &b"text"[..]),
+            (Format::Fboss, 1, b"\x00"),
+            (Format::Fboss, 13, b"20130203"),
+            (Format::Fboss, 13, b"20131303"),
+            (Format::Tiny, POOL, b"any"),
+            (Format::Tiny, 0x10, b""),
+            (Format::Tiny, 0x10, b"1"),
+        ] {
+            for key in [&b""[..], b"k", b"lab.rack"] {
+                assert_eq!(
+                    keeps_writers_rule(format, code, key, value),
+                    keeps_rule(format, code, key, value)
+                );
+            }
+        }
     }
 
     #[test]

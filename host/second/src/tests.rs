@@ -685,8 +685,11 @@ mod frames_of_images {
         // The first of two breaks is reported, and a broken rule before a second key.
         let image = [1, 1, b'k', 0, 1, 1, b'k', 0, 1, 0, 0, 0];
         assert_eq!(check(VPD, 1, &image), refused(8, 4));
-        let image = [1, 1, b'k', 0, 1, 1, b'-', 0, 1, 1, b'k', 0, 0];
+        let image = [1, 1, b'k', 0, 1, 0, 0, 1, 1, b'k', 0, 0];
         assert_eq!(check(VPD, 1, &image), refused(7, 4));
+        // A key outside the writer's alphabet breaks nothing in between.
+        let image = [1, 1, b'k', 0, 1, 1, b'-', 0, 1, 1, b'k', 0, 0];
+        assert_eq!(check(VPD, 1, &image), refused(8, 8));
     }
 
     fn check_tiny(entries: &[u8]) -> Result<usize, Refusal> {
@@ -977,6 +980,9 @@ mod writes {
             Ok(b"\xfe\x08gVpdInfo\x04\x09\0\0\0\0".to_vec())
         );
         assert_eq!(written(VPD, 2, &[info, info], 100), refused(8, 1));
+        // A second one that is wrong by itself is that first.
+        let wrong: (u32, &[u8], &[u8]) = (0xFE, b"gVpdInfo", b"\x09\0\0");
+        assert_eq!(written(VPD, 2, &[info, wrong], 100), refused(7, 1));
         assert_eq!(
             written(VPD, 2, &[(1, b"a", b"1"), (1, b"a", b"2")], 100),
             refused(8, 1)
@@ -1151,6 +1157,391 @@ mod edits {
         let made = edited(TINY, 1, &image, 2, &longest[..244], 300).unwrap();
         assert_eq!(made.len(), 255);
         assert_eq!(check(TINY, 1, &made), Ok(3));
+    }
+}
+
+/// 02, VPD names with dots: a reader takes any key of at least one byte, a writer only those of the
+/// narrow alphabet.
+mod vpd_names {
+    use super::*;
+
+    /// The key "lab.rack" with the value "A7".
+    const LAB: &[u8] = b"\x01\x08lab.rack\x02A7\x00";
+
+    /// The bytes of the writer's alphabet.
+    const ALPHABET: &[u8] = b"abcdefghijklmnopqrstuvwxyzABCDEFGHIJKLMNOPQRSTUVWXYZ0123456789_";
+
+    /// Keys that no writer takes for a 01h.
+    const UNWRITTEN: [&[u8]; 20] = [
+        b"lab.rack",
+        b".",
+        b"..",
+        b"lab.",
+        b".rack",
+        b"lab rack",
+        b"lab-rack",
+        b"lab/rack",
+        b"\"",
+        b"'",
+        b"\x00",
+        b"\x00\x00",
+        b"lab\x00",
+        b"\x01",
+        b"\n",
+        b"\x7F",
+        b"\xFE",
+        b"\xFF",
+        // No UTF-8, and UTF-8 of a letter that is none of the alphabet.
+        b"\xC3\x28",
+        "é".as_bytes(),
+    ];
+
+    /// One entry of a key's shortest length form and a value of at most 127 bytes.
+    fn one(code: u8, key: &[u8], value: &[u8]) -> Vec<u8> {
+        let lengths = [key, value].map(|part| u8::try_from(part.len()).unwrap());
+        assert!(lengths.iter().all(|&length| length < 0x80));
+        [&[code, lengths[0]], key, &[lengths[1]], value].concat()
+    }
+
+    /// An image of these entries of type 01h.
+    fn of_keys(keys: &[&[u8]]) -> Vec<u8> {
+        let mut image: Vec<u8> = keys.iter().flat_map(|key| one(1, key, b"")).collect();
+        image.push(0);
+        image
+    }
+
+    /// The key of each entry that an edition lists, all of them of type 01h and named.
+    fn keys_read(edition: u32, image: &[u8]) -> Result<Vec<&[u8]>, Refusal> {
+        let entries = list(VPD, edition, image, usize::MAX)?;
+        assert_eq!(check(VPD, edition, image), Ok(entries.len()));
+        let key = |entry: &Entry| {
+            assert_eq!((entry.code, entry.kind), (1, 513));
+            assert_eq!(entry.reading, Reading::Plain);
+            &image[entry.key_place as usize..][..entry.key_len as usize]
+        };
+        Ok(entries.iter().map(key).collect())
+    }
+
+    #[test]
+    fn a_dotted_name_is_read_by_every_call() {
+        let record = Entry {
+            code: 1,
+            kind: 513,
+            place: 0,
+            key_place: 2,
+            key_len: 8,
+            value_place: 11,
+            value_len: 2,
+            reading: Reading::Plain,
+        };
+        for edition in [1, 2] {
+            assert_eq!(check(VPD, edition, LAB), Ok(1));
+            assert_eq!(list(VPD, edition, LAB, 1), Ok(vec![record]));
+            assert_eq!(list(VPD, edition, LAB, 0), refused(12, 0));
+            assert_eq!(entry(VPD, edition, LAB, 0), Ok(record));
+            assert_eq!(entry(VPD, edition, LAB, 1), refused(13, 0));
+            assert_eq!(value(VPD, edition, LAB, 0), Ok((11, 2)));
+            assert_eq!(string(VPD, edition, LAB, 0), refused(16, 0));
+            let walk = Walk {
+                format: VPD,
+                edition,
+                entry: 0,
+            };
+            let (given, next) = step(walk, LAB);
+            assert_eq!((given, next.entry), (Ok(record), 1));
+            assert_eq!(step(next, LAB), (refused(13, 0), next));
+
+            let input = [&[2, edition as u8], LAB].concat();
+            let head = format!("format 2 edition {edition} entries 1\n");
+            assert_eq!(program::output(&input), head + "0 513 2 8 11 2\n");
+        }
+    }
+
+    #[test]
+    fn any_bytes_are_a_key() {
+        for edition in [1, 2] {
+            for first in 0..=255 {
+                let key = [first];
+                assert_eq!(keys_read(edition, &of_keys(&[&key])), Ok(vec![&key[..]]));
+                for key in [[first, 0x00], [0xFF, first], [b'.', first]] {
+                    assert_eq!(keys_read(edition, &of_keys(&[&key])), Ok(vec![&key[..]]));
+                }
+            }
+            // All keys of one byte at once, and all of two bytes with one first byte.
+            let all: Vec<[u8; 1]> = (0..=255).map(|byte| [byte]).collect();
+            let all: Vec<&[u8]> = all.iter().map(|key| &key[..]).collect();
+            assert_eq!(keys_read(edition, &of_keys(&all)), Ok(all));
+            let all: Vec<[u8; 2]> = (0..=255).map(|byte| [0x2E, byte]).collect();
+            let all: Vec<&[u8]> = all.iter().map(|key| &key[..]).collect();
+            assert_eq!(keys_read(edition, &of_keys(&all)), Ok(all));
+            assert_eq!(
+                keys_read(edition, &of_keys(&UNWRITTEN)),
+                Ok(UNWRITTEN.to_vec())
+            );
+        }
+    }
+
+    #[test]
+    fn keys_compare_as_bytes() {
+        for edition in [1, 2] {
+            for key in UNWRITTEN {
+                let second = one(1, key, b"").len() as u64;
+                assert_eq!(
+                    check(VPD, edition, &of_keys(&[key, key])),
+                    refused(8, second)
+                );
+                let image = of_keys(&[key, b"between", key]);
+                assert_eq!(check(VPD, edition, &image), refused(8, second + 10));
+                // Another form of its length is the same key.
+                let mut image = one(1, key, b"first");
+                let place = image.len() as u64;
+                image.extend([0x01, 0x80, 0x80, key.len() as u8]);
+                image.extend(key);
+                image.extend([0x80, 0x00, 0x00]);
+                assert_eq!(check(VPD, edition, &image), refused(8, place));
+            }
+            // Keys that a comparison as text, up to a zero byte or without case could confuse.
+            let near: [&[u8]; 18] = [
+                b"lab.rack",
+                b"Lab.rack",
+                b"lab.racK",
+                b"lab.rac",
+                b"lab.rack.",
+                b"lab.rack\x00",
+                b"\x00lab.rack",
+                b"lab.rack ",
+                b"lab_rack",
+                b"lab\xAErack",
+                b"\x00",
+                b"\x00\x00",
+                b"\x80",
+                b"\x81",
+                b"\xFF",
+                "é".as_bytes(),
+                "e\u{301}".as_bytes(),
+                b"\xE9",
+            ];
+            assert_eq!(keys_read(edition, &of_keys(&near)), Ok(near.to_vec()));
+        }
+    }
+
+    #[test]
+    fn an_empty_key_is_refused() {
+        for edition in [1, 2] {
+            assert_eq!(check(VPD, edition, &of_keys(&[b""])), refused(7, 0));
+            assert_eq!(check(VPD, edition, &of_keys(&[b"", b""])), refused(7, 0));
+            assert_eq!(check(VPD, edition, &of_keys(&[b".", b""])), refused(7, 4));
+            // Its length in another form, and a value that is there.
+            let image = b"\x01\x80\x80\x00\x04\x01\x01\x01\x01\x00";
+            assert_eq!(check(VPD, edition, image), refused(7, 0));
+            // It comes before a key that is there twice, and after one.
+            let image = of_keys(&[b".", b"", b"."]);
+            assert_eq!(check(VPD, edition, &image), refused(7, 4));
+            let image = of_keys(&[b".", b".", b""]);
+            assert_eq!(check(VPD, edition, &image), refused(8, 4));
+            // Every call refuses the image alike, and an edit of another entry too.
+            let image = of_keys(&[b"a.b", b""]);
+            assert_eq!(list(VPD, edition, &image, 0), refused(7, 6));
+            assert_eq!(entry(VPD, edition, &image, 0), refused(7, 6));
+            assert_eq!(value(VPD, edition, &image, 0), refused(7, 6));
+            assert_eq!(edited(VPD, edition, &image, 0, b"v", 50), refused(7, 6));
+
+            assert_eq!(written(VPD, edition, &[(1, b"", b"v")], 50), refused(7, 0));
+            let parts: [(u32, &[u8], &[u8]); 2] = [(1, b"k", b""), (1, b"", b"")];
+            assert_eq!(written(VPD, edition, &parts, 50), refused(7, 1));
+        }
+    }
+
+    #[test]
+    fn an_edit_of_a_dotted_entry() {
+        for edition in [1, 2] {
+            assert_eq!(
+                edited(VPD, edition, LAB, 0, b"B", 20),
+                Ok(b"\x01\x08lab.rack\x01B\x00".to_vec())
+            );
+            assert_eq!(
+                edited(VPD, edition, LAB, 0, b"", 12),
+                Ok(b"\x01\x08lab.rack\x00\x00".to_vec())
+            );
+            assert_eq!(edited(VPD, edition, LAB, 0, b"A7", 14), Ok(LAB.to_vec()));
+            assert_eq!(edited(VPD, edition, LAB, 0, b"A7", 13), refused(12, 0));
+            assert_eq!(edited(VPD, edition, LAB, 1, b"B", 20), refused(13, 0));
+            // Zero groups before the key's length stay, those before the value's length go.
+            let image = b"\x01\x80\x80\x08lab.rack\x80\x02A7\xFFrest";
+            assert_eq!(
+                edited(VPD, edition, image, 0, b"B7", 20),
+                Ok(b"\x01\x80\x80\x08lab.rack\x02B7\x00".to_vec())
+            );
+            for key in UNWRITTEN {
+                let image = of_keys(&[key]);
+                let expected = [&one(1, key, b"new")[..], &[0]].concat();
+                assert_eq!(edited(VPD, edition, &image, 0, b"new", 50), Ok(expected));
+            }
+        }
+    }
+
+    #[test]
+    fn an_edit_next_to_a_dotted_entry() {
+        for edition in [1, 2] {
+            let entries: [&[u8]; 4] = [
+                b"\x01\x80\x08lab.rack\x80\x80\x01x",
+                b"\x01\x03SKU\x02A7",
+                b"\x01\x02\x00\xFF\x80\x00",
+                b"\xFE\x03a.b\x04\x01\x02\x03\x04",
+            ];
+            let image = [&entries.concat()[..], &[0xFF]].concat();
+            let with = |n: usize, entry: &[u8]| {
+                let mut entries = entries;
+                entries[n] = entry;
+                Ok([&entries.concat()[..], &[0x00]].concat())
+            };
+            assert_eq!(
+                edited(VPD, edition, &image, 1, b"B", 60),
+                with(1, b"\x01\x03SKU\x01B")
+            );
+            assert_eq!(
+                edited(VPD, edition, &image, 0, b"yz", 60),
+                with(0, b"\x01\x80\x08lab.rack\x02yz")
+            );
+            assert_eq!(
+                edited(VPD, edition, &image, 2, b"v", 60),
+                with(2, b"\x01\x02\x00\xFF\x01v")
+            );
+            let info = edited(VPD, edition, &image, 3, b"4321", 60);
+            match edition {
+                1 => assert_eq!(info, refused(14, 29)),
+                _ => assert_eq!(info, with(3, b"\xFE\x03a.b\x044321")),
+            }
+            // The value's rule is looked at, whatever the key.
+            let wrong = edited(VPD, edition, &image, 3, b"432", 60);
+            assert_eq!(wrong, refused(if edition == 1 { 14 } else { 7 }, 29));
+        }
+    }
+
+    #[test]
+    fn a_write_of_a_dotted_name() {
+        let good: [(u32, &[u8], &[u8]); 3] = [(1, b"a", b"1"), (1, b"B_9", b""), (1, b"_", b"3")];
+        for edition in [1, 2] {
+            assert!(written(VPD, edition, &good, 60).is_ok());
+            for key in UNWRITTEN {
+                for number in 0..=good.len() {
+                    let mut parts = good.to_vec();
+                    parts.insert(number, (1, key, b"v"));
+                    let refusal = refused(7, number as u64);
+                    assert_eq!(written(VPD, edition, &parts, 200), refusal);
+                    // It comes before the same key in a later field, and before an output that is
+                    // too small.
+                    parts.insert(number, (1, key, b"v"));
+                    assert_eq!(written(VPD, edition, &parts, 0), refusal);
+                    // A field before it that is refused comes first.
+                    parts.insert(0, (2, b"k", b""));
+                    assert_eq!(written(VPD, edition, &parts, 200), refused(14, 0));
+                }
+            }
+            // A part outside the values comes before the alphabet.
+            let (mut list, values) = fields(&[(1, b"a.b", b"v")]);
+            list[0].value_len = 2;
+            let mut out = [0xA5; 20];
+            let result = write(VPD, edition, &list, &values, &mut out);
+            assert_eq!(finished(result, out.to_vec()), refused(13, 0));
+        }
+    }
+
+    #[test]
+    fn both_sides_of_the_alphabet() {
+        for byte in 0..=255u8 {
+            for key in [
+                vec![byte],
+                vec![byte, b'k', b'k'],
+                vec![b'k', byte, b'k'],
+                vec![b'k', b'k', byte],
+            ] {
+                let image = [&one(1, &key, b"v")[..], &[0]].concat();
+                let writes = if ALPHABET.contains(&byte) {
+                    Ok(image.clone())
+                } else {
+                    refused(7, 1)
+                };
+                for edition in [1, 2] {
+                    assert_eq!(keys_read(edition, &image), Ok(vec![&key[..]]));
+                    let parts = [(1, &b"ok"[..], &b""[..]), (1, &key, b"v")];
+                    let made = written(VPD, edition, &parts, 50);
+                    assert_eq!(made.map(|made| made[5..].to_vec()), writes);
+                }
+            }
+        }
+        // The two sides of each range, by hand.
+        for (byte, writes) in [
+            (0x2F, false),
+            (0x30, true),
+            (0x39, true),
+            (0x3A, false),
+            (0x40, false),
+            (0x41, true),
+            (0x5A, true),
+            (0x5B, false),
+            (0x5E, false),
+            (0x5F, true),
+            (0x60, false),
+            (0x61, true),
+            (0x7A, true),
+            (0x7B, false),
+        ] {
+            assert_eq!(check(VPD, 1, &of_keys(&[&[byte]])), Ok(1));
+            assert_eq!(written(VPD, 1, &[(1, &[byte], b"")], 5).is_ok(), writes);
+        }
+    }
+
+    #[test]
+    fn an_info_header_has_any_key() {
+        let info = [1, 2, 3, 4];
+        for key in UNWRITTEN.into_iter().chain([&b""[..], b"gVpdInfo"]) {
+            let image = [&one(0xFE, key, &info)[..], &[0]].concat();
+            assert_eq!(check(VPD, 1, &image), Ok(1));
+            assert_eq!(check(VPD, 2, &image), Ok(1));
+            let parts = [(0xFE, key, &info[..])];
+            assert_eq!(written(VPD, 1, &parts, 50), refused(14, 0));
+            assert_eq!(written(VPD, 2, &parts, 50), Ok(image.clone()));
+            let made = [&one(0xFE, key, b"4321")[..], &[0]].concat();
+            assert_eq!(edited(VPD, 2, &image, 0, b"4321", 50), Ok(made));
+            if key.is_empty() {
+                continue;
+            }
+            // A 01h of the same key is not its second.
+            let image = [one(1, key, b""), one(0xFE, key, &info), vec![0]].concat();
+            assert_eq!(check(VPD, 1, &image), Ok(2));
+            assert_eq!(check(VPD, 2, &image), Ok(2));
+            let image = [one(0xFE, key, &info), one(1, key, b""), vec![0]].concat();
+            assert_eq!(check(VPD, 1, &image), Ok(2));
+            assert_eq!(check(VPD, 2, &image), Ok(2));
+        }
+        let parts: [(u32, &[u8], &[u8]); 2] = [(0xFE, b"k", &info), (1, b"k", b"")];
+        assert!(written(VPD, 2, &parts, 50).is_ok());
+    }
+
+    /// The frame of a 01h with an empty value has its key and three bytes more.
+    #[test]
+    fn as_many_keys_as_there_can_be() {
+        let mut keys: Vec<Vec<u8>> = (0..=255).map(|byte| vec![byte]).collect();
+        let two = (0..=u16::MAX).map(|two| two.to_be_bytes().to_vec());
+        keys.extend(two.take((65_535 - 256 * 4) / 5));
+        assert_eq!(keys.len(), 13_158);
+        let of = |keys: &[Vec<u8>]| of_keys(&keys.iter().map(|key| &key[..]).collect::<Vec<_>>());
+        let image = of(&keys);
+        assert_eq!(image.len(), 65_535);
+        for edition in [1, 2] {
+            let expected: Vec<&[u8]> = keys.iter().map(|key| &key[..]).collect();
+            assert_eq!(keys_read(edition, &image), Ok(expected));
+            assert_eq!(list(VPD, edition, &image, 13_157), refused(12, 0));
+            for first in [0, 255, 256, 13_156] {
+                let mut keys = keys.clone();
+                keys[13_157] = keys[first].clone();
+                assert_eq!(check(VPD, edition, &of(&keys)), refused(8, 65_529));
+            }
+            let mut keys = keys.clone();
+            keys.push(vec![0xFF, 0xFF]);
+            assert_eq!(check(VPD, edition, &of(&keys)), refused(2, 0));
+        }
     }
 }
 
@@ -1353,8 +1744,15 @@ mod drawn {
                     }
                     VPD => {
                         let code = [0x01, 0x01, 0x01, 0xFE][self.below(4) as usize];
-                        let key = b'a' + self.below(8) as u8;
-                        entries.extend([code, 1, key, 4]);
+                        let key = match self.below(8) {
+                            0 => vec![self.byte()],
+                            1 => vec![b'a' + self.below(4) as u8, b'.'],
+                            2 => self.bytes(4),
+                            _ => vec![b'a' + self.below(8) as u8],
+                        };
+                        entries.extend([code, key.len() as u8]);
+                        entries.extend(key);
+                        entries.push(4);
                         entries.extend((0..4).map(|_| self.byte()));
                     }
                     _ => {
@@ -1436,7 +1834,10 @@ mod drawn {
                 0 => draw.bytes(12),
                 _ => vec![b'0'; place.1],
             };
-            if let Ok(made) = edited(format, edition, image, n, &new, 300) {
+            let made = edited(format, edition, image, n, &new, 300);
+            // No value of a 01h is wrong, whatever its key.
+            assert!(made.is_ok() || (format, listed.code) != (VPD, 1));
+            if let Ok(made) = made {
                 let after = list(format, edition, &made, count).unwrap();
                 assert_eq!(after.len(), count);
                 for (m, (old, after)) in entries.iter().zip(&after).enumerate() {
@@ -1452,7 +1853,8 @@ mod drawn {
         }
         assert_eq!(entry(format, edition, image, count as u64), refused(13, 0));
 
-        // Where all entries are named, writing them again gives the same entries.
+        // Where all entries are named, writing them again gives the same entries, but for a 01h whose
+        // key a writer refuses.
         if entries.iter().all(|entry| entry.kind != 0) {
             let again: Vec<_> = entries
                 .iter()
@@ -1461,7 +1863,16 @@ mod drawn {
                     (entry.code, key, value)
                 })
                 .collect();
-            let made = written(format, edition, &again, 300).unwrap();
+            let unwritten = again.iter().position(|&(code, key, _)| {
+                let in_alphabet = |byte: &u8| byte.is_ascii_alphanumeric() || *byte == b'_';
+                format == VPD && code == 1 && !key.iter().all(in_alphabet)
+            });
+            let made = written(format, edition, &again, 300);
+            if let Some(number) = unwritten {
+                assert_eq!(made, refused(7, number as u64));
+                return;
+            }
+            let made = made.unwrap();
             let after = list(format, edition, &made, count).unwrap();
             for (old, after) in entries.iter().zip(&after) {
                 assert_eq!((after.kind, after.reading), (old.kind, old.reading));

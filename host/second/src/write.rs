@@ -44,7 +44,7 @@ pub fn write(
         if pool_seen {
             return Err(Reason::AfterPool.at(number));
         }
-        if !names::keeps_rule(format, code, key, value) {
+        if !names::keeps_writers_rule(format, code, key, value) {
             return Err(Reason::Rule.at(number));
         }
         if !present.add(format, code, key) {
@@ -91,6 +91,7 @@ pub fn edit(
     if !names::is_named(format, accepted.edition, frame.code) {
         return Err(Reason::NotNamed.at(frame.place));
     }
+    // The key stays as it is, so it need only keep the reader's rule.
     let key = &image[frame.key.clone()];
     if !names::keeps_rule(format, frame.code, key, value) {
         return Err(Reason::Rule.at(frame.place));

@@ -3,7 +3,8 @@
 use images::fields::List;
 use images::image::{Entry, Format, Image, LONGEST};
 use images::random::Random;
-use images::{fboss, tiny, vpd};
+use images::vpd::{self, Rule};
+use images::{fboss, tiny};
 
 use super::scope::SKU;
 use super::*;
@@ -400,6 +401,8 @@ pub fn on_lengths(compare: &mut Comparison) {
 /// entry twice, and writes of as many fields.
 pub fn largest_images(compare: &mut Comparison) {
     let mut random = Random::of_input(0, 0, 0);
+    let mut mixed = vpd::distinct(Rule::Reader, 13_158);
+    random.shuffle(&mut mixed);
     let images = [
         (
             Format::Fboss,
@@ -410,7 +413,14 @@ pub fn largest_images(compare: &mut Comparison) {
         (Format::Vpd, vpd::shortest(LONGEST), 21_845, 1),
         (
             Format::Vpd,
-            vpd::filling(&mut random, LONGEST, 0),
+            vpd::filling(&mut random, Rule::Reader, LONGEST, 0),
+            13_158,
+            2,
+        ),
+        (Format::Vpd, mixed, 13_158, 2),
+        (
+            Format::Vpd,
+            vpd::filling(&mut random, Rule::Writer, LONGEST, 0),
             11_605,
             2,
         ),
@@ -439,22 +449,48 @@ pub fn largest_images(compare: &mut Comparison) {
         }
     }
 
-    // The last of the keys becomes one of the others, of the same length: the one before it, one
-    // from the middle, and the first such key.
-    let entries = vpd::filling(&mut random, LONGEST, 0);
-    let last = entries.len() - 1;
-    for other in [last - 1, 8_000, 63 + 63 * 63] {
-        compare.next_case();
-        let mut entries = entries.clone();
-        entries[last].key = entries[other].key.clone();
+    // One key less, as many as fit, and one more, with which the image has 65,540 bytes.
+    for count in [13_157, 13_158, 13_159] {
+        let entries = vpd::distinct(Rule::Reader, count);
         let image = Image::new(Format::Vpd, entries).bytes();
-        let place = LONGEST as u64 - 7;
-        compare.case(
-            "a key twice",
-            &Call::check(VPD, 2, &image),
-            refused(8, place),
-            None,
-        );
+        for edition in [1, 2] {
+            compare.next_case();
+            let check = Call::check(VPD, edition, &image);
+            if count == 13_159 {
+                compare.case("too many keys", &check, refused(2, 0), None);
+                continue;
+            }
+            compare.case("as many keys", &check, given(count), None);
+            let length = LONGEST - 1 - (13_158 - count) * 5;
+            let edit = |value, room| check.edit(count as u64 - 1, value, room);
+            compare.case("edited", &edit(b"", length), given(length), Some(&image));
+            compare.case("edited", &edit(b"", length - 1), refused(12, 0), None);
+            let [longest, longer] = [0, 1].map(|more| vec![b'v'; LONGEST - length + more]);
+            compare.case("edited", &edit(&longest, LONGEST), given(LONGEST), None);
+            compare.case("edited", &edit(&longer, LONGEST), refused(12, 0), None);
+        }
+    }
+
+    // The last of the keys becomes one of the others: the one before it, one from the middle, the
+    // first of the same length, and the first of all. Its frame begins at the same place.
+    for (rule, first_as_long) in [(Rule::Reader, 256), (Rule::Writer, 63 + 63 * 63)] {
+        let entries = vpd::filling(&mut random, rule, LONGEST, 0);
+        let last = entries.len() - 1;
+        for other in [last - 1, 8_000, first_as_long, 0] {
+            let mut entries = entries.clone();
+            entries[last].key = entries[other].key.clone();
+            let image = Image::new(Format::Vpd, entries).bytes();
+            for edition in [1, 2] {
+                compare.next_case();
+                let place = LONGEST as u64 - 7;
+                compare.case(
+                    "a key twice",
+                    &Call::check(VPD, edition, &image),
+                    refused(8, place),
+                    None,
+                );
+            }
+        }
     }
 
     for (count, room, answer) in [
@@ -465,25 +501,27 @@ pub fn largest_images(compare: &mut Comparison) {
         compare.next_case();
         let mut list = List::default();
         for number in 0..count {
-            list.add(1, &vpd::numbered_key(number), &[]);
+            list.add(1, &vpd::numbered_key(Rule::Writer, number), &[]);
         }
         let fields = list.bytes();
         let call = Call::write(VPD, 1, &fields, &list.values, room);
         compare.case("as many keys", &call, answer, None);
-        list.add(1, &vpd::numbered_key(4_000), b"again");
+        list.add(1, &vpd::numbered_key(Rule::Writer, 4_000), b"again");
         let fields = list.bytes();
         let call = Call::write(VPD, 1, &fields, &list.values, room);
         compare.case("a key twice", &call, refused(8, count as u64), None);
     }
 
     // A field's number that needs more than 16 bits.
-    compare.next_case();
-    let mut list = List::default();
-    for number in 0..70_000 {
-        list.add(1, &vpd::numbered_key(number), &[]);
+    for (key, number) in [(&b"A"[..], 8), (b"lab.rack", 7)] {
+        compare.next_case();
+        let mut list = List::default();
+        for number in 0..70_000 {
+            list.add(1, &vpd::numbered_key(Rule::Writer, number), &[]);
+        }
+        list.add(1, key, &[]);
+        let fields = list.bytes();
+        let call = Call::write(VPD, 2, &fields, &list.values, LONGEST);
+        compare.case("many fields", &call, refused(number, 70_000), None);
     }
-    list.add(1, b"A", &[]);
-    let fields = list.bytes();
-    let call = Call::write(VPD, 2, &fields, &list.values, LONGEST);
-    compare.case("many fields", &call, refused(8, 70_000), None);
 }

@@ -14,7 +14,8 @@ use crate::plan;
 fn small_images() -> [(Format, Vec<u8>); 3] {
     let mut vpd = vpd_example_image();
     vpd.pop();
-    vpd.extend(b"\xFE\x08gVpdInfo\x04\x00\x01\x00\x00\x01\x80\x01A\x80\x00\x00");
+    vpd.extend(b"\xFE\x08gVpdInfo\x04\x00\x01\x00\x00\x01\x80\x01A\x80\x00");
+    vpd.extend(b"\x01\x08lab.rack\x02A7\x01\x02\x00\xFF\x01\x00\x00");
     [
         (Format::Fboss, fboss_example_image()),
         (Format::Vpd, vpd),
@@ -145,8 +146,9 @@ pub fn values_of_edits(compare: &mut Comparison) {
     }
 }
 
-/// Writes with a field of every code to 300, after the fields that a format requires, with a value
-/// that keeps the code's rule and with one of each length.
+/// Writes with a field of every code to 300: after the fields that a format requires, with a value
+/// that keeps the code's rule, and alone, with a value of each length and two keys, of which a VPD
+/// writer takes only one for a 01h.
 pub fn codes_of_fields(compare: &mut Comparison) {
     for format in FORMATS {
         for edition in [1, 2] {
@@ -173,37 +175,42 @@ pub fn codes_of_fields(compare: &mut Comparison) {
                     3_000,
                 ));
                 for length in 0..=16 {
-                    let mut list = List::default();
-                    list.add(code, b"key", &vec![b'0'; length]);
-                    compare.call(&Call::write(
-                        number,
-                        edition,
-                        &list.bytes(),
-                        &list.values,
-                        40,
-                    ));
+                    for key in [&b"key"[..], b"lab.rack"] {
+                        let mut list = List::default();
+                        list.add(code, key, &vec![b'0'; length]);
+                        compare.call(&Call::write(
+                            number,
+                            edition,
+                            &list.bytes(),
+                            &list.values,
+                            40,
+                        ));
+                    }
                 }
             }
         }
     }
 }
 
-/// A byte that breaks the rule at each place of a long key and of a long text, and two long keys that
-/// differ in the byte at each place.
+/// A byte outside the alphabet at each place of a long key, one that breaks the rule at each place of
+/// a long text, and two long keys that differ in the byte at each place.
 pub fn places_of_long_parts(compare: &mut Comparison) {
     const LENGTH: usize = 300;
     for place in 0..LENGTH {
         compare.next_case();
         let good = vec![b'k'; LENGTH];
-        let mut bad = good.clone();
-        bad[place] = b'-';
-        let mut other = good.clone();
-        other[place] = b'K';
+        let [dotted, other, zero] = [b'.', b'K', 0x00].map(|byte| {
+            let mut key = good.clone();
+            key[place] = byte;
+            key
+        });
         for (first, second) in [
-            (&bad, &other),
+            (&dotted, &other),
             (&other, &good),
-            (&good, &bad),
+            (&good, &dotted),
             (&good, &good),
+            (&dotted, &zero),
+            (&dotted, &dotted),
         ] {
             let entries = [first, second].map(|key| Entry::with_key(1, key.clone(), Vec::new()));
             let image = Image::new(Format::Vpd, entries.to_vec()).bytes();
