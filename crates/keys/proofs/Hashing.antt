@@ -45,4 +45,4 @@ from-short h (b ∷ bs) lt = from-short ((h + b) * 0xC2B2AE35 % 4294967296) bs (
 -- a hash has 32 bits
 pub hash-short : (key : List ℕ) → hashed key < 4294967296
 unfolding hashed
-hash-short key = from-short 1 key (omega arith)
+hash-short key = from-short 5 key (omega arith)

@@ -18,9 +18,9 @@ unfoldable pub hashFrom : ℕ → List ℕ → ℕ
 hashFrom h [] = h
 hashFrom h (b ∷ bs) = hashFrom (hashByte h b) bs
 
--- from 1 on: from 0 on, bytes 00h before a key would not tell it from that key
+-- from 5 on (D29); from 0 on, bytes 00h before a key would not tell it from that key
 unfoldable pub hashed : List ℕ → ℕ
-hashed key = hashFrom 1 key
+hashed key = hashFrom 5 key
 
 -- which of n words a hash belongs to
 unfoldable pub wordAt : ℕ → ℕ → ℕ

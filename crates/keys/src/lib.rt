@@ -15,7 +15,7 @@ fn hash_byte(h: u32, b: u8) -> u32
 fn hash_key(key: &[u8]) -> u32
     ensures { λ r. ⌜ r ≡ hashed (now (key .entry)) ⌝ }
 {
-    let mut h: u32 = 1;
+    let mut h: u32 = 5;
     let mut i = 0;
     while i < key.len() {
         h = hash_byte(h, key[i]);
