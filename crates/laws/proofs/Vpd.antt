@@ -1,7 +1,7 @@
 -- VPD 2.0 meets the laws of a format.
 -- Assumes nothing.
 use Prim.Native.Nat.{ℕ, suc, _+_, _-_, _≤_, _<_}
-use mathlib.Core.Path.{_≡_, refl, ap, sym}
+use mathlib.Core.Path.{_≡_, refl, ap, sym, _∙_}
 use mathlib.Core.List.{List, [], _∷_, _++_, append-assoc}
 use mathlib.Core.Logic.{_⊎_, inl, inr, ⊎-elim}
 use mathlib.Core.Bool.{Bool, true, false, _&&_, false≢true, and-eq-true-iff}
@@ -123,14 +123,14 @@ opening-least c key l bytes o =
     go : Each (λ b. b < 256) (c ∷ (o .lens ++ key)) → length (shortest (length key)) ≤ length (o .lens)
     go (also b bs) = shortest-least (each-left (o .lens) key bs) (o .says)
 
--- a key that may be written may be read
-written-key : (c : ℕ) (key : List ℕ) → vpdWriterKey c key ≡ true → vpdReaderKey c key ≡ true
+-- the writer's test of a key is the reader's, and that of its bytes
+pub writer-key : (c : ℕ) (key : List ℕ) → vpdWriterKey c key ≡ (vpdReaderKey c key && if (eqb c 0x01) (λ _. all keyByte key) (λ _. true))
 unfolding vpdReaderKey vpdWriterKey
-written-key c key = go (eqb c 0x01)
+writer-key c key = go (eqb c 0x01)
   where
-    go : (b : Bool) → if b (λ _. ltb 0 (length key) && all keyByte key) (λ _. true) ≡ true → if b (λ _. ltb 0 (length key)) (λ _. true) ≡ true
-    go true h = and-eq-true-iff (ltb 0 (length key)) (all keyByte key) .0 h .0
-    go false h = refl
+    go : (b : Bool) → if b (λ _. ltb 0 (length key) && all keyByte key) (λ _. true) ≡ (if b (λ _. ltb 0 (length key)) (λ _. true) && if b (λ _. all keyByte key) (λ _. true))
+    go true = refl
+    go false = refl
 
 -- VPD 2.0 reads exactly what its grammar writes, and writes what it reads
 pub vpd-laws : Laws vpd vpdGrammar
@@ -153,7 +153,7 @@ vpd-laws =
       opening-shortest = opening-least;
       lens-made = λ c n h le. shortest-says n;
       lens-shortest = λ c n l bytes says. shortest-least bytes says;
-      key-made = written-key;
+      key-made = λ c key h. and-eq-true-iff (vpdReaderKey c key) (if (eqb c 0x01) (λ _. all keyByte key) (λ _. true)) .0 (sym (writer-key c key) ∙ h) .0;
       closing-made = inl refl;
       closing-length = λ z. ⊎-elim (λ e. ap length e) (λ e. ap length e);
       room-made = λ entries z t closing.

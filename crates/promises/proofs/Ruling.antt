@@ -14,7 +14,7 @@ use Rattle.layout.specs.declared.Format.{Format}
 use Rattle.layout.specs.declared.Format.the-variants.{Fboss, Vpd, Tiny}
 use Rattle.layout.specs.Bytes.{if, between, all, oneOf}
 use Rattle.layout.specs.Fboss.{fboss, fbossRule, dateRule, digit, twoDigits, printable}
-use Rattle.layout.specs.Vpd.{vpd, vpdReaderKey, vpdWriterKey, vpdRule, keyByte}
+use Rattle.layout.specs.Vpd.{vpd, vpdReaderKey, vpdRule, keyByte}
 use Rattle.layout.specs.Tiny.{tiny, tinyRule, tinyTakes, revisionRule, batch}
 use Rattle.layout.specs.Editions.{shape}
 use Rattle.layout.specs.Walk.{Content}
@@ -23,6 +23,7 @@ use Rattle.layout.specs.Write.{writerRule}
 use Rattle.layout.specs.Edit.{editRule}
 use Rattle.laws.specs.Grammar.{grammar, EntryOf, Each, none, also, TinySays}
 use Rattle.laws.proofs.Choices.{either, both}
+use Rattle.laws.proofs.Vpd.{writer-key}
 use Rattle.promises.specs.Names.{One, Two, Named, sinceOne, sinceTwo, vpd01, tiny01, tiny10, tiny11, tiny60, tiny61, tiny62, vpdFE, tiny80, tiny81}
 use Rattle.promises.specs.Rules.{Exactly, Between, Printable, TextCode, KeyByte, FbossValue, VpdKey, VpdValue, Revision, TinyValue, KeyRule, AlphabetRule, ValueRule, LengthRule, Rules}
 use Rattle.promises.proofs.Naming.{FromTo, each-between}
@@ -216,15 +217,7 @@ vpd-key {e} {code} key n = record { to = to n; from = from }
     from (VpdKey.string is long) = rw is (tells-lt 0 (length key) .from long)
     from (VpdKey.info is) = rw is refl
 
--- the writer's test of a key is the reader's, and that of its bytes
-vpd-new-key : (code : ℕ) (key : List ℕ) → vpdWriterKey code key ≡ (vpdReaderKey code key && if (eqb code 0x01) (λ _. all keyByte key) (λ _. true))
-unfolding vpdReaderKey vpdWriterKey
-vpd-new-key code key = go (eqb code 0x01)
-  where
-    go : (b : Bool) → if b (λ _. ltb 0 (length key) && all keyByte key) (λ _. true) ≡ (if b (λ _. ltb 0 (length key)) (λ _. true) && if b (λ _. all keyByte key) (λ _. true))
-    go true = refl
-    go false = refl
-
+-- the bytes of a key that is written
 vpd-alphabet : (code : ℕ) (key : List ℕ) → Tells (if (eqb code 0x01) (λ _. all keyByte key) (λ _. true)) (code ≡ 0x01 → Each KeyByte key)
 vpd-alphabet code key = go (eqb code 0x01) refl
   where
@@ -328,7 +321,7 @@ key-exactly Tiny e code key n = tells-nothing
 new-key-exactly : (g : Format) (e code : ℕ) (key : List ℕ) → Named g e code → Tells (shape g .writerKey code key) (KeyRule g code key × AlphabetRule g code key)
 unfolding fboss vpd tiny
 new-key-exactly Fboss e code key n = tells-both tells-nothing tells-nothing
-new-key-exactly Vpd e code key n = rw (vpd-new-key code key) (tells-both (vpd-key key n) (vpd-alphabet code key))
+new-key-exactly Vpd e code key n = rw (writer-key code key) (tells-both (vpd-key key n) (vpd-alphabet code key))
 new-key-exactly Tiny e code key n = tells-both tells-nothing tells-nothing
 
 value-exactly : (g : Format) (e code : ℕ) (v : List ℕ) → Named g e code → Fits g code (length v) → Tells (shape g .valueRule code v) (ValueRule g code v)
