@@ -116,8 +116,8 @@ enum {
                                        type 02h to FDh, or a fourth length byte that says another
                                        follows; Tiny tag 00h; at the entry's first byte */
     BOARDID_REFUSED_RULE = 7,       /* a named entry, or the new value of one, breaks the rule of
-                                       its code; at the entry's first byte. Which bytes a VPD key
-                                       has is a reason in a write only */
+                                       its code; at the entry's first byte. The alphabet of a VPD
+                                       01h key is a reason in a write only */
     BOARDID_REFUSED_TWICE = 8,      /* a named code (VPD 01h: a key) comes a second time; at the
                                        first byte of the second entry */
     BOARDID_REFUSED_AFTER_POOL = 9, /* an entry after the pool; at its first byte */

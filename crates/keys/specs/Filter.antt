@@ -18,7 +18,7 @@ unfoldable pub hashFrom : ℕ → List ℕ → ℕ
 hashFrom h [] = h
 hashFrom h (b ∷ bs) = hashFrom (hashByte h b) bs
 
--- from 5 on (D29); from 0 on, bytes 00h before a key would not tell it from that key
+-- the hash of a key, started at 5 (D29): started at 0, bytes 00h before a key would leave its hash the same
 unfoldable pub hashed : List ℕ → ℕ
 hashed key = hashFrom 5 key
 

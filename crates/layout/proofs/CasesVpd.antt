@@ -1,4 +1,4 @@
--- Worked cases of VPD images, as one statement over a list (01, "VPD 2.0 (002)").
+-- Worked cases of VPD images, as one statement over a list (01, "VPD 2.0 (002)"; 02, "VPD names with dots").
 -- Assumes nothing.
 use Prim.Native.Nat.{ℕ}
 use mathlib.Core.Path.{_≡_, refl}
@@ -106,7 +106,7 @@ cases =
     -- a frame before a rule
     ∷ alike 2 (hex "01 00 00 02 00") (refuses 6 3)
     ∷ alike 2 (hex "01 00 00 01") (refuses 5 3)
-    -- ---- 7: the key of a 01h has at least one byte; it may be any
+    -- ---- 7: the key of a 01h has at least one byte, and any bytes
     ∷ alike 2 (keyOnly []) (refuses 7 0)
     ∷ alike 2 (hex "01 01 41 00 01 00 00 00") (refuses 7 4)
     ∷ alike 2 (hex "01 80 00 00 00") (refuses 7 0)
@@ -160,6 +160,7 @@ cases =
     ∷ alike 2 (hex "01 01 41 00 FE 01 41 04 00 00 00 00 00") (Accepted 2)
     -- 7 before 8
     ∷ checks 2 2 (hex "FE 00 04 00 00 00 00 FE 00 03 00 00 00 00") (refuses 7 7)
+    -- the first entry that is wrong
     ∷ alike 2 (hex "01 01 41 00 01 01 41 00 01 00 00 00") (refuses 8 4)
     ∷ alike 2 (hex "01 00 00 01 00 00 00") (refuses 7 0)
     -- ---- the types that each edition names: 13, and 14 for any other

@@ -104,7 +104,7 @@ cases =
     -- 8 before 11, and 11 before 12
     ∷ unwrites 1 1 (field 1 0 1 ∷ field 1 0 1 ∷ []) lent 0 (refusal 8 1)
     ∷ unwrites 1 1 (field 1 0 1 ∷ []) lent 0 (refusal 11 0)
-    -- ---- VPD: no rule on the length of a key or a value; 7 for a key that is empty or has another byte
+    -- ---- VPD: no rule on the length of a key or a value; 7 for a key that is empty or has a byte outside the alphabet
     ∷ writes 2 1 (keyedField 0x01 0 2 2 3 ∷ []) lent (replicate 10 7) (Wrote 9) (hex "01 02 41 42 03 05 00 01 00 FF")
     ∷ unwrites 2 1 (keyedField 0x01 0 2 2 3 ∷ []) lent 8 (refusal 12 0)
     ∷ unwrites 2 2 (keyedField 0x01 1 2 0 0 ∷ []) lent 30 (refusal 7 0)

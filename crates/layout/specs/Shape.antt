@@ -58,7 +58,7 @@ pub record Shape : Type 0 where
   pub most : ℕ
   -- the codes that editions name
   pub namings : List Naming
-  -- a named entry's rule on its key: the reader's and the writer's are two, though 01 has them equal
+  -- a named entry's rule on its key, the reader's and the writer's, which is the narrower one for VPD 01h (02, "VPD names with dots")
   pub readerKey : ℕ → List ℕ → Bool
   pub writerKey : ℕ → List ℕ → Bool
   -- a named entry's rule on its value, which is asked only where the value's length is right: by its frame in reading, by the second rule in writing

@@ -52,11 +52,11 @@ shortest n =
 abbrev pub keyByte : ℕ → Bool
 keyByte b = between 0x61 0x7A b || between 0x41 0x5A b || between 0x30 0x39 b || eqb b 0x5F
 
--- the reader's rule on the key of a 01h: it is not empty, and may be any bytes
+-- the reader's rule on the key of a 01h: it is not empty, and may be any bytes (02, "VPD names with dots")
 unfoldable pub vpdReaderKey : ℕ → List ℕ → Bool
 vpdReaderKey c key = if (eqb c 0x01) (λ _. ltb 0 (length key)) (λ _. true)
 
--- the writer's rule on the key of a 01h
+-- the writer's rule on the key of a 01h: it is not empty, and each byte is of 01's alphabet
 unfoldable pub vpdWriterKey : ℕ → List ℕ → Bool
 vpdWriterKey c key = if (eqb c 0x01) (λ _. ltb 0 (length key) && all keyByte key) (λ _. true)
 

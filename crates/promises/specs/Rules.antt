@@ -82,7 +82,7 @@ KeyRule Fboss code key = Unit {0}
 KeyRule Vpd code key = VpdKey code key
 KeyRule Tiny code key = Unit {0}
 
--- what a key that is written has besides: the bytes of a VPD string's are of the narrow alphabet
+-- what is asked besides of a key that is written: of a VPD 01h, that each byte is of the narrow alphabet
 abbrev pub AlphabetRule : Format → ℕ → List ℕ → Type 0
 AlphabetRule Fboss code key = Unit {0}
 AlphabetRule Vpd code key = code ≡ 0x01 → Each KeyByte key
