@@ -6,7 +6,6 @@ use mathlib.Core.List.{List}
 use mathlib.Core.Bool.{false}
 use native.Mathlib.Omega.{arith}
 use lib.ListN.{length}
-use Rattle.layout.specs.declared.Format.{Format}
 use Rattle.layout.specs.declared.Chosen.the-variants.{Known}
 use Rattle.layout.specs.declared.Opened.the-variants.{Room}
 use Rattle.layout.specs.declared.Refusal.{Refusal}

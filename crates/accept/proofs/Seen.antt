@@ -1,33 +1,32 @@
 -- Whether an entry comes a second time: by its code, which is marked, or by its key, which a loop looks for among the entries before it.
 -- Assumes nothing.
-use Prim.Native.Nat.{ℕ, zero, suc, _+_, _-_, _≤_, _<_}
-use mathlib.Core.Path.{_≡_, refl, ap, sym, _∙_}
-use mathlib.Core.List.{List, [], _∷_, _++_, map}
+use Prim.Native.Nat.{ℕ, _+_, _-_, _≤_, _<_}
+use mathlib.Core.Path.{_≡_, refl, ap, ap₂, sym, _∙_}
+use mathlib.Core.List.{List, [], _∷_}
 use mathlib.Core.Bool.{Bool, true, false, _&&_}
 use native.Mathlib.Omega.{arith}
-use lib.ListN.{length, take}
-use lib.Dec.{ltb, eqb}
-use borrow.Author.Tests.{lt-ltb, le-ltb}
+use lib.ListN.{take}
+use lib.Dec.{eqb}
 use Rattle.layout.specs.declared.Format.{Format}
 use Rattle.layout.specs.declared.Format.the-variants.{Vpd}
 use Rattle.layout.specs.declared.Frame.{Frame}
+use Rattle.layout.specs.declared.Next.{Next}
 use Rattle.layout.specs.declared.Next.the-variants.{Framed}
 use Rattle.layout.specs.Bytes.{if, sameBytes, part}
 use Rattle.layout.specs.Shape.{Label, next}
 use Rattle.layout.specs.Vpd.{vpd, vpdTwice}
 use Rattle.layout.specs.Editions.{shape}
-use Rattle.layout.specs.Walk.{Raw, content}
-use Rattle.layout.specs.Read.{same, seenBefore, codesOf}
-use Rattle.laws.specs.Grammar.{grammar}
+use Rattle.layout.specs.Walk.{Raw, Content, content}
+use Rattle.layout.specs.Read.{seenBefore, codesOf}
 use Rattle.laws.specs.Marked.{marked}
-use Rattle.laws.specs.Passes.{walked, rawsIn, labels, before}
+use Rattle.laws.specs.Passes.{labels}
 use Rattle.laws.proofs.Frames.{rawOf, framed-in}
-use Rattle.laws.proofs.Records.{raw-placed}
 use Rattle.laws.proofs.Marks.{Marks}
 use Rattle.laws.proofs.Seen as seen
 use Rattle.laws.proofs.Seen.{labelCodes, AlwaysTwice}
-use Rattle.laws.proofs.Passes.{Passing, Onward, pass-on, part-within}
 use Rattle.laws.proofs.Formats.{laws}
+use Rattle.accept.specs.Passes.{Passed}
+use Rattle.accept.proofs.Endings.{frame-says}
 
 -- ---- by code
 
@@ -47,72 +46,84 @@ marked-seen f c key rs marks t lt m = seen.marked-seen f c key (labels rs) marks
 abbrev pub keyed : List ℕ → Label
 keyed key = record { code = 1; key = key }
 
-module _ (image : List ℕ) (start end : ℕ) (p : ℕ) (key : List ℕ) where
-  -- the loop stands at q: what it looks for is looked for among the entries from q on
-  pub record Looking (q : ℕ) : Type 0 where
-    pub pass : Passing (shape Vpd) (grammar Vpd) image start end (rawsIn (walked Vpd image start end)) q false
-    pub left : seenBefore (shape Vpd) (labels (before (rawsIn (walked Vpd image start end)) start p)) (keyed key) ≡ seenBefore (shape Vpd) (labels (before (pass .todo) q p)) (keyed key)
-
--- nothing is left to look at
-pub look-none : (todo : List Raw) (q p : ℕ) (a : Label) → (p ≤ q) → seenBefore (shape Vpd) (labels (before todo q p)) a ≡ false
-unfolding seenBefore before
-look-none [] q p a le = refl
-look-none (r ∷ rs) q p a le = rw (le-ltb q p le)
+-- no pass goes back
+passed-on : (f : Format) (image : List ℕ) (end : ℕ) (b c : Bool) (q p : ℕ) (rs : List Raw) → Passed f image end b q rs c p → q ≤ p
+passed-on f image end b c q p [] h = omega (arith, h .1)
+passed-on f image end b c q p (r ∷ rs) h = omega (arith, passed-on f image end (shape f .last (r .frame .code)) c (q + r .frame .size) p rs (h .2))
 
 -- one entry is looked at
-look-one : (r : Raw) (rs : List Raw) (q p : ℕ) (key : List ℕ) → q < p →
-    seenBefore (shape Vpd) (labels (before (r ∷ rs) q p)) (keyed key) ≡
-    if (eqb 1 (r .frame .code) && sameBytes key (content r .key)) (λ _. true) (λ _. seenBefore (shape Vpd) (labels (before rs (q + r .frame .size) p)) (keyed key))
-unfolding seenBefore before vpd vpdTwice content
-look-one r rs q p key lt = rw (lt-ltb q p lt)
+look-one : (r : Raw) (rs : List Raw) (key : List ℕ) →
+    seenBefore (shape Vpd) (labels (r ∷ rs)) (keyed key) ≡ if (eqb 1 (r .frame .code) && sameBytes key (content r .key)) (λ _. true) (λ _. seenBefore (shape Vpd) (labels rs) (keyed key))
+unfolding seenBefore vpd vpdTwice content
+look-one r rs key = refl
 
-module _ (image : List ℕ) (start end p : ℕ) (key : List ℕ) (q : ℕ) (f : Frame) (w : Looking image start end p key q)
-    (e : next (shape Vpd) false (part q (end - q) image) ≡ Framed f) where
-  onward : Onward (laws Vpd) image start end (rawsIn (walked Vpd image start end)) q false f (w .pass)
-  onward = pass-on (laws Vpd) image start end (rawsIn (walked Vpd image start end)) q false f (w .pass) e
+module _ (image : List ℕ) (start end p : ℕ) (key : List ℕ) where
+  -- the loop stands at q: what is looked for among the entries passed is looked for among those of them from q on
+  pub record Left (past : List Raw) (shut : Bool) (q : ℕ) : Type 0 where
+    pub todo : List Raw
+    pub passed : Passed Vpd image end false q todo shut p
+    pub same : seenBefore (shape Vpd) (labels past) (keyed key) ≡ seenBefore (shape Vpd) (labels todo) (keyed key)
 
-  -- the key lies inside the frame
-  pub key-in : f .key + f .klen ≤ f .size
-  key-in =
-      let x = onward in
-      let pl = raw-placed (laws Vpd) (x .raw) (x .isRaw) in
-      rw (x .frame) at (let z : x .raw .frame .key + x .raw .frame .klen ≤ x .raw .frame .size = omega (arith, pl .keyIn, pl .valueLast) in z)
+  abbrev pub Looking : ℕ → Type 0
+  Looking q = (past : List Raw) (shut : Bool) → Passed Vpd image end false start past shut p → Left past shut q
 
-  -- what the entry's key is
-  key-is : content (onward .raw) .key ≡ part (q + f .key) (f .klen) image
-  unfolding content
-  key-is =
-      let i = framed-in (laws Vpd) false (part q (end - q) image) f e in
-      ap (λ (r : Raw). part (r .frame .key) (r .frame .klen) (r .bytes)) (onward .isRawOf) ∙ part-within image q (end - q) (f .key) (f .klen) (f .size) key-in (i .1)
+  pub look-first : Looking start
+  look-first past shut h = record { todo = past; passed = h; same = refl }
 
-  looked : q < p → (b : Bool) → eqb 1 (f .code) && sameBytes key (part (q + f .key) (f .klen) image) ≡ b →
-      seenBefore (shape Vpd) (labels (before (rawsIn (walked Vpd image start end)) start p)) (keyed key) ≡
-      if b (λ _. true) (λ _. seenBefore (shape Vpd) (labels (before (onward .todo) (q + f .size) p)) (keyed key))
-  looked lt b t =
-      let x = onward in
-      let test : eqb 1 (x .raw .frame .code) && sameBytes key (content (x .raw) .key) ≡ b = rw (key-is, x .frame) t in
-      w .left ∙ ap (λ (l : List Raw). seenBefore (shape Vpd) (labels (before l q p)) (keyed key)) (x .heads)
-      ∙ look-one (x .raw) (x .todo) q p key lt
-      ∙ rw (test, x .frame)
+  module _ (q : ℕ) (w : Looking q) (past : List Raw) (shut : Bool) (h : Passed Vpd image end false start past shut p) where
+    -- the place is reached
+    pub look-over : p ≤ q → false ≡ seenBefore (shape Vpd) (labels past) (keyed key)
+    unfolding seenBefore
+    look-over le = go (w past shut h .todo) (w past shut h .passed) (w past shut h .same)
+      where
+        go : (todo : List Raw) → Passed Vpd image end false q todo shut p → seenBefore (shape Vpd) (labels past) (keyed key) ≡ seenBefore (shape Vpd) (labels todo) (keyed key) →
+            false ≡ seenBefore (shape Vpd) (labels past) (keyed key)
+        go [] g s = sym s
+        go (r ∷ rs) g s =
+            let i = framed-in (laws Vpd) false (part q (end - q) image) (r .frame) (g .0) in
+            absurd (omega (arith, passed-on Vpd image end (shape Vpd .last (r .frame .code)) shut (q + r .frame .size) p rs (g .2)))
 
-  -- the key is there
-  pub look-hit : q < p → eqb 1 (f .code) && sameBytes key (part (q + f .key) (f .klen) image) ≡ true →
-      seenBefore (shape Vpd) (labels (before (rawsIn (walked Vpd image start end)) start p)) (keyed key) ≡ true
-  look-hit lt t = looked lt true t
+    -- a frame stands at each place before it
+    pub look-framed : q < p → (x : Next) → next (shape Vpd) false (part q (end - q) image) ≡ x → ((f : Frame) → x ≡ Framed f → ⊥) → ⊥
+    look-framed lt x n no-frame = go (w past shut h .todo) (w past shut h .passed)
+      where
+        go : (todo : List Raw) → Passed Vpd image end false q todo shut p → ⊥
+        go [] g = omega (arith, g .1)
+        go (r ∷ rs) g = no-frame (r .frame) (sym n ∙ g .0)
 
-  -- it is not, and the loop goes on
-  pub look-on : q < p → eqb 1 (f .code) && sameBytes key (part (q + f .key) (f .klen) image) ≡ false → Looking image start end p key (q + f .size)
-  unfolding vpd
-  look-on lt t =
-      let x = onward in
-      record { pass = x .on; left = looked lt false t ∙ ap (λ (l : List Raw). seenBefore (shape Vpd) (labels (before l (q + f .size) p)) (keyed key)) (sym (x .todoOn)) }
+    module _ (f : Frame) (e : next (shape Vpd) false (part q (end - q) image) ≡ Framed f) (lt : q < p) where
+      -- the first entry that is left is that frame's
+      record Heads (todo : List Raw) : Type 0 where
+        rest : List Raw
+        is : todo ≡ rawOf f (part q (end - q) image) ∷ rest
+        on : Passed Vpd image end false (q + f .size) rest shut p
 
--- nothing is left: the place is reached, or no entry is left
-pub look-over : (image : List ℕ) (start end p : ℕ) (key : List ℕ) (q : ℕ) (w : Looking image start end p key q) → p ≤ q →
-    seenBefore (shape Vpd) (labels (before (rawsIn (walked Vpd image start end)) start p)) (keyed key) ≡ false
-look-over image start end p key q w le = w .left ∙ look-none (w .pass .todo) q p (keyed key) le
+      heads : (todo : List Raw) → Passed Vpd image end false q todo shut p → Heads todo
+      unfolding vpd
+      heads [] g = absurd (omega (arith, g .1))
+      heads (r ∷ rs) g =
+          let frame : r .frame ≡ f = cc in
+          let bytes : r .bytes ≡ take (f .size) (part q (end - q) image) = g .1 ∙ ap (λ (x : Frame). take (x .size) (part q (end - q) image)) frame in
+          record {
+            rest = rs;
+            is = ap₂ (λ (x : List ℕ) (y : Frame). record { bytes = x; frame = y } ∷ rs) bytes frame;
+            on = rw (← frame) (g .2);
+          }
 
-pub look-empty : (image : List ℕ) (start end p : ℕ) (key : List ℕ) (q : ℕ) (w : Looking image start end p key q) → w .pass .todo ≡ [] →
-    seenBefore (shape Vpd) (labels (before (rawsIn (walked Vpd image start end)) start p)) (keyed key) ≡ false
-unfolding seenBefore before
-look-empty image start end p key q w e = w .left ∙ ap (λ (l : List Raw). seenBefore (shape Vpd) (labels (before l q p)) (keyed key)) e
+      -- it is looked at
+      looked : (b : Bool) → eqb 1 (f .code) && sameBytes key (part (q + f .key) (f .klen) image) ≡ b → (o : Heads (w past shut h .todo)) →
+          seenBefore (shape Vpd) (labels past) (keyed key) ≡ if b (λ _. true) (λ _. seenBefore (shape Vpd) (labels (o .rest)) (keyed key))
+      looked b t o =
+          let s : List ℕ = part q (end - q) image in
+          let test : eqb 1 (f .code) && sameBytes key (content (rawOf f s) .key) ≡ b = ap (λ (c : Content). eqb 1 (f .code) && sameBytes key (c .key)) (frame-says Vpd image end false q f e) ∙ t in
+          w past shut h .same ∙ ap (λ (l : List Raw). seenBefore (shape Vpd) (labels l) (keyed key)) (o .is) ∙ look-one (rawOf f s) (o .rest) key ∙ rw test
+
+      -- the key is there
+      pub look-hit : eqb 1 (f .code) && sameBytes key (part (q + f .key) (f .klen) image) ≡ true → true ≡ seenBefore (shape Vpd) (labels past) (keyed key)
+      look-hit t = sym (looked true t (heads (w past shut h .todo) (w past shut h .passed)))
+
+      -- it is not, and the loop goes on
+      pub look-on : eqb 1 (f .code) && sameBytes key (part (q + f .key) (f .klen) image) ≡ false → Left past shut (q + f .size)
+      look-on t =
+          let o = heads (w past shut h .todo) (w past shut h .passed) in
+          record { todo = o .rest; passed = o .on; same = looked false t o }

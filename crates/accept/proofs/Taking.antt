@@ -12,85 +12,85 @@ use Rattle.layout.specs.declared.Chosen.the-variants.{Known, Unknown}
 use Rattle.layout.specs.declared.Opened.the-variants.{Room, Closed}
 use Rattle.layout.specs.declared.Refusal.{Refusal}
 use Rattle.layout.specs.Bytes.{part, refusal}
-use Rattle.layout.specs.Shape.{Shape}
 use Rattle.layout.specs.Editions.{shape, chosen}
 use Rattle.layout.specs.Walk.{Raw, flat, Walked, done, stop}
 use Rattle.layout.specs.Read.{sealed, checkPlace, Judged, fine, faulty, judge, complete, codesOf, Read, accepted, refused, readComplete, readWalked, readAs, readImage, limit}
-use Rattle.laws.specs.Passes.{walked, IsDone, rawsIn}
+use Rattle.laws.specs.Passes.{walked}
 use Rattle.laws.proofs.Passes.{part-most}
 use Rattle.laws.proofs.Walking.{walk-decode}
 use Rattle.laws.proofs.Images.{accepted-made}
 use Rattle.laws.proofs.Formats.{laws}
-use Rattle.accept.specs.declared.Ending.{Ending}
 use Rattle.accept.specs.declared.Ending.the-variants.{Ends, Stops}
 use Rattle.accept.specs.declared.Judgement.{Judgement}
 use Rattle.accept.specs.declared.Judgement.the-variants.{Fine, Faulty}
-use Rattle.accept.specs.declared.Taken.{Taken}
 use Rattle.accept.specs.declared.Taken.the-variants.{Is, Isnt}
-use Rattle.accept.specs.Passes.{endingOf, judgement, judged}
+use Rattle.accept.specs.Passes.{walkEnding, judgement, judged, endingOf}
 use Rattle.accept.specs.Taken.{roomTaken, takenBy, taken}
 
--- a walk that ended with n entries at p
-pub record Done (f : Format) (image : List ℕ) (start end n p : ℕ) : Type 0 where
+-- a pass that ended with n entries at p, and what the rules came to
+pub record Done (f : Format) (e : ℕ) (image : List ℕ) (start end n p : ℕ) (j : Judgement) : Type 0 where
   pub raws : List Raw
   pub isWalk : walked f image start end ≡ done raws p
   pub count : n ≡ length raws
   pub over : p ≡ start + length (flat raws)
   pub bound : start ≤ end → p ≤ end
-  pub isDone : IsDone (walked f image start end)
+  pub judges : judged f e raws start ≡ j
 
-pub ends-done : (f : Format) (image : List ℕ) (start end n p : ℕ) → endingOf 0 (walked f image start end) ≡ Ends n p → Done f image start end n p
-ends-done f image start end n p q = go (walked f image start end) refl q
+pub ends-done : (f : Format) (e : ℕ) (image : List ℕ) (start end n p : ℕ) (j : Judgement) → endingOf f e (walked f image start end) start ≡ Ends n p j → Done f e image start end n p j
+ends-done f e image start end n p j q = go (walked f image start end) refl q
   where
-    go : (w : Walked) → walked f image start end ≡ w → endingOf 0 w ≡ Ends n p → Done f image start end n p
-    go (done rs r) e q =
+    go : (w : Walked) → walked f image start end ≡ w → endingOf f e w start ≡ Ends n p j → Done f e image start end n p j
+    go (done rs r) x q =
         let place : r ≡ p = cc in
-        let count : 0 + length rs ≡ n = cc in
-        let walk : walked f image start end ≡ done rs p = e ∙ ap (done rs) place in
+        let count : length rs ≡ n = cc in
+        let judges : judged f e rs start ≡ j = cc in
+        let walk : walked f image start end ≡ done rs p = x ∙ ap (done rs) place in
         let d = walk-decode (laws f) start (part start (end - start) image) rs p walk in
-        record { raws = rs; isWalk = walk; count = omega arith; over = d .place; bound = λ le. omega (arith, d .place, ap length (d .joined), length-append (flat rs) (d .rest), part-most image start (end - start)); isDone = rw e tt }
-    go (stop k r) e q = let z : _≡_ {A = ℕ} 0 1 = cc in absurd (omega arith)
+        record { raws = rs; isWalk = walk; count = sym count; over = d .place; bound = λ le. omega (arith, d .place, ap length (d .joined), length-append (flat rs) (d .rest), part-most image start (end - start)); judges = judges }
+    go (stop k r) x q = let z : _≡_ {A = ℕ} 0 1 = cc in absurd (omega arith)
+
+-- a walk over the frames alone that stopped, as the pass over frames and rules does
+pub stops-alike : (f : Format) (e start k p : ℕ) (w : Walked) → walkEnding 0 Fine w ≡ Stops k p → Stops k p ≡ endingOf f e w start
+stops-alike f e start k p (done rs r) q = let z : _≡_ {A = ℕ} 0 1 = cc in absurd (omega arith)
+stops-alike f e start k p (stop m r) q = sym q
 
 module _ (f : Format) (e : ℕ) (image : List ℕ) (start end : ℕ) where
   -- a broken frame
-  pub room-stops : (k p : ℕ) → endingOf 0 (walked f image start end) ≡ Stops k p → roomTaken (readWalked (walked f image start end) f e image start) end ≡ Isnt (refusal k p)
+  pub room-stops : (k p : ℕ) → endingOf f e (walked f image start end) start ≡ Stops k p → roomTaken (readWalked (walked f image start end) f e image start) end ≡ Isnt (refusal k p)
   room-stops k p q = go (walked f image start end) q
     where
-      go : (w : Walked) → endingOf 0 w ≡ Stops k p → roomTaken (readWalked w f e image start) end ≡ Isnt (refusal k p)
+      go : (w : Walked) → endingOf f e w start ≡ Stops k p → roomTaken (readWalked w f e image start) end ≡ Isnt (refusal k p)
       go (done rs r) q = let z : _≡_ {A = ℕ} 0 1 = cc in absurd (omega arith)
       go (stop m r) q = let x : m ≡ k = cc in let y : r ≡ p = cc in rw (x, y)
 
-  module _ (n p : ℕ) (d : Done f image start end n p) where
-    -- a wrong check
-    pub room-unsealed : sealed (shape f) image p ≡ false → roomTaken (readWalked (walked f image start end) f e image start) end ≡ Isnt (refusal 10 (checkPlace (shape f) p))
-    room-unsealed s = rw (d .isWalk, s)
+  -- a wrong check
+  pub room-unsealed : (n p : ℕ) (j : Judgement) → Done f e image start end n p j → sealed (shape f) image p ≡ false →
+      roomTaken (readWalked (walked f image start end) f e image start) end ≡ Isnt (refusal 10 (checkPlace (shape f) p))
+  room-unsealed n p j d s = rw (d .isWalk, s)
 
-    judged-raws : (j : Judgement) → j ≡ judged f e (rawsIn (walked f image start end)) start → judgement (judge (shape f) e [] (d .raws) start) (complete (shape f .required) (codesOf (d .raws))) ≡ j
-    judged-raws j q = sym (q ∙ ap (λ (w : Walked). judged f e (rawsIn w) start) (d .isWalk))
+  -- a rule broken, or a required field missing
+  pub room-faulty : (n p k q : ℕ) → Done f e image start end n p (Faulty k q) → sealed (shape f) image p ≡ true →
+      roomTaken (readWalked (walked f image start end) f e image start) end ≡ Isnt (refusal k q)
+  room-faulty n p k q d s =
+      rw (d .isWalk, s) (go (judge (shape f) e [] (d .raws) start) (complete (shape f .required) (codesOf (d .raws))) refl (d .judges))
+    where
+      go : (x : Judged) (b : Bool) → complete (shape f .required) (codesOf (d .raws)) ≡ b → judgement x b ≡ Faulty k q →
+          roomTaken (readComplete x f start (d .raws)) end ≡ Isnt (refusal k q)
+      go fine true c h = let z : _≡_ {A = ℕ} 0 1 = cc in absurd (omega arith)
+      go fine false c h = let y : 11 ≡ k = cc in let z : 0 ≡ q = cc in rw (c, ← y, ← z)
+      go (faulty m r) b c h = let y : m ≡ k = cc in let z : r ≡ q = cc in rw (y, z)
 
-    -- a rule broken, or a required field missing
-    pub room-faulty : (k q : ℕ) → sealed (shape f) image p ≡ true → Faulty k q ≡ judged f e (rawsIn (walked f image start end)) start →
-        roomTaken (readWalked (walked f image start end) f e image start) end ≡ Isnt (refusal k q)
-    room-faulty k q s j =
-        rw (d .isWalk, s) (go (judge (shape f) e [] (d .raws) start) (complete (shape f .required) (codesOf (d .raws))) refl (judged-raws (Faulty k q) j))
-      where
-        go : (x : Judged) (b : Bool) → complete (shape f .required) (codesOf (d .raws)) ≡ b → judgement x b ≡ Faulty k q →
-            roomTaken (readComplete x f start (d .raws)) end ≡ Isnt (refusal k q)
-        go fine true c h = let z : _≡_ {A = ℕ} 0 1 = cc in absurd (omega arith)
-        go fine false c h = let y : 11 ≡ k = cc in let z : 0 ≡ q = cc in rw (c, ← y, ← z)
-        go (faulty m r) b c h = let y : m ≡ k = cc in let z : r ≡ q = cc in rw (y, z)
-
-    -- nothing is wrong
-    pub room-fine : sealed (shape f) image p ≡ true → Fine ≡ judged f e (rawsIn (walked f image start end)) start →
-        roomTaken (readWalked (walked f image start end) f e image start) end ≡ Is (record { format = f; start = start; end = end; over = p; count = n })
-    room-fine s j =
-        rw (d .isWalk, s, d .over, d .count) (go (judge (shape f) e [] (d .raws) start) (complete (shape f .required) (codesOf (d .raws))) refl (judged-raws Fine j))
-      where
-        go : (x : Judged) (b : Bool) → complete (shape f .required) (codesOf (d .raws)) ≡ b → judgement x b ≡ Fine →
-            roomTaken (readComplete x f start (d .raws)) end ≡ Is (record { format = f; start = start; end = end; over = start + length (flat (d .raws)); count = length (d .raws) })
-        go fine true c h = rw c
-        go fine false c h = let z : _≡_ {A = ℕ} 0 1 = cc in absurd (omega arith)
-        go (faulty m r) b c h = let z : _≡_ {A = ℕ} 0 1 = cc in absurd (omega arith)
+  -- nothing is wrong
+  pub room-fine : (n p : ℕ) → Done f e image start end n p Fine → sealed (shape f) image p ≡ true →
+      roomTaken (readWalked (walked f image start end) f e image start) end ≡ Is (record { format = f; start = start; end = end; over = p; count = n })
+  room-fine n p d s =
+      rw (d .isWalk, s, d .over, d .count) (go (judge (shape f) e [] (d .raws) start) (complete (shape f .required) (codesOf (d .raws))) refl (d .judges))
+    where
+      go : (x : Judged) (b : Bool) → complete (shape f .required) (codesOf (d .raws)) ≡ b → judgement x b ≡ Fine →
+          roomTaken (readComplete x f start (d .raws)) end ≡ Is (record { format = f; start = start; end = end; over = start + length (flat (d .raws)); count = length (d .raws) })
+      go fine true c h = rw c
+      go fine false c h = let z : _≡_ {A = ℕ} 0 1 = cc in absurd (omega arith)
+      go (faulty m r) b c h = let z : _≡_ {A = ℕ} 0 1 = cc in absurd (omega arith)
 
 -- ---- the whole image
 

@@ -5,7 +5,6 @@ use mathlib.Core.List.{List}
 use lib.ListN.{length}
 use Rattle.layout.specs.declared.Opened.{Opened}
 use Rattle.layout.specs.declared.Opened.the-variants.{Room, Closed}
-use Rattle.layout.specs.Shape.{Shape}
 use Rattle.layout.specs.Editions.{shape}
 use Rattle.layout.specs.Walk.{flat}
 use Rattle.layout.specs.Read.{Read, accepted, refused, readImage}

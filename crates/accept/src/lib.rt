@@ -1,35 +1,36 @@
 // The image's own refusals: an image is taken, with where its entries are, or refused.
 ghost use mathlib.Core.Path.{_≡_};
-ghost use mathlib.Core.Bool.{true, false};
-ghost use Prim.Native.Nat.{ℕ, _+_, _-_, _≤_, _<_};
-ghost use lib.ListN.{length, take};
+ghost use mathlib.Core.Bool.{Bool, false};
+ghost use mathlib.Core.List.{List};
+ghost use Prim.Native.Nat.{_-_, _≤_, _<_};
+ghost use lib.ListN.{length};
 ghost use Rattle.layout.specs.Bytes.{part};
+ghost use Rattle.layout.specs.Shape.{Label};
 ghost use Rattle.layout.specs.Editions.{shape};
-ghost use Rattle.layout.specs.Walk.{content};
+ghost use Rattle.layout.specs.Walk.{Raw, walk};
 ghost use Rattle.layout.specs.Read.{seenBefore, codesOf, fault, readWalked};
-ghost use Rattle.laws.specs.Passes.{walked, IsDone, rawsIn, labels, before};
+ghost use Rattle.laws.specs.Passes.{walked, labels};
 ghost use Rattle.laws.proofs.Marks.{Marks};
 ghost use Rattle.keys.proofs.Seen.{keySeen};
-ghost use Rattle.accept.specs.Passes.{endingOf, judged};
+ghost use Rattle.accept.specs.Passes.{Passed, walkEnding, endingOf};
 ghost use Rattle.accept.specs.Taken.{roomTaken, taken};
 use layout::Chosen;
 use layout::Format;
-use layout::Frame;
 use layout::Next;
 use layout::Opened;
 use layout::Place;
 use layout::Refusal;
 
-// How a walk over frames ends: with so many entries at a place, or with a refusal's number at a place.
-pub enum Ending {
-    Ends(usize, usize),
-    Stops(u32, usize),
-}
-
 // What the rules and the required fields come to: a refusal's number and place, or nothing.
 pub enum Judgement {
     Fine,
     Faulty(u32, usize),
+}
+
+// How a pass over the entries ends: with so many of them at a place, and what the rules come to; or with a refusal's number at a place.
+pub enum Ending {
+    Ends(usize, usize, Judgement),
+    Stops(u32, usize),
 }
 
 // Where the entries of an accepted image are, and how many: they start at `start`, have room up to `end`, and end at `over`.
@@ -46,27 +47,36 @@ pub enum Taken {
     Isnt(Refusal),
 }
 
-// One pass over the frames.
-fn walk_image(format: Format, image: &[u8], start: usize, end: usize) -> Ending
-    requires { ⌜ start ≤ end ⌝ }
-    ensures { λ r. ⌜ r ≡ endingOf 0 (walked format (now (image .entry)) start end) ⌝ }
+// A pass over the frames alone, from `start` on, after n entries and with what the rules come to.
+// `shut`: the entry before was one that none may follow.
+fn walk_on(
+    format: Format,
+    shut: bool,
+    image: &[u8],
+    start: usize,
+    end: usize,
+    n: usize,
+    judgement: Judgement,
+) -> Ending
+    requires { ⌜ (start ≤ end) × (n ≤ start) ⌝ }
+    ensures { λ r. ⌜ r ≡ walkEnding n judgement (walk (shape format) shut start (part start (end - start) (now (image .entry)))) ⌝ }
 {
-    let mut p = start;
-    let mut n: usize = 0;
-    let mut shut = false;
+    let mut q = start;
+    let mut count = n;
+    let mut closed = shut;
     loop {
-        let x = frames::next_frame(format, shut, image, p, end);
+        let x = frames::next_frame(format, closed, image, q, end);
         match x {
             Next::Framed(f) => {
-                shut = frames::is_last(format, f.code);
-                p += f.size;
-                n += 1;
+                closed = frames::is_last(format, f.code);
+                q += f.size;
+                count += 1;
             }
             Next::Ended => {
-                return Ending::Ends(n, p);
+                return Ending::Ends(count, q, judgement);
             }
             Next::Broken(k) => {
-                return Ending::Stops(k, p);
+                return Ending::Stops(k, q);
             }
         }
     }
@@ -74,8 +84,8 @@ fn walk_image(format: Format, image: &[u8], start: usize, end: usize) -> Ending
 
 // Whether an entry before p has code 01h and this key.
 fn seen_key(image: &[u8], start: usize, end: usize, p: usize, key: &[u8]) -> bool
-    requires { ⌜ (start ≤ end) × IsDone (walked Format.Vpd (now image) start end) ⌝ }
-    ensures { λ r. ⌜ r ≡ seenBefore (shape Format.Vpd) (labels (before (rawsIn (walked Format.Vpd (now (image .entry)) start end)) start p)) (record { code = 1; key = now (key .entry) }) ⌝ }
+    requires { ⌜ p ≤ end ⌝ }
+    ensures { λ r. ⌜ ((past : List Raw) (shut : Bool) → Passed Format.Vpd (now (image .entry)) end false start past shut p → r ≡ seenBefore (shape Format.Vpd) (labels past) (record { code = 1; key = now (key .entry) })) ⌝ }
 {
     let mut q = start;
     while q < p {
@@ -111,10 +121,8 @@ fn is_seen(
     known: bool,
     seen: &[u8; 256],
 ) -> bool
-    requires { ⌜ (start ≤ end) × IsDone (walked format (now image) start end) × (code < 256) ⌝ }
-    requires { ⌜ Marks (codesOf (before (rawsIn (walked format (now image) start end)) start p)) (now seen) ⌝ }
-    requires { ⌜ (known ≡ false → keySeen (labels (before (rawsIn (walked format (now image) start end)) start p)) (now key) ≡ false) ⌝ }
-    ensures { λ r. ⌜ r ≡ seenBefore (shape format) (labels (before (rawsIn (walked format (now (image .entry)) start end)) start p)) (record { code = code; key = now (key .entry) }) ⌝ }
+    requires { ⌜ (p ≤ end) × (code < 256) ⌝ }
+    ensures { λ r. ⌜ ((past : List Raw) (shut : Bool) → Passed format (now (image .entry)) end false start past shut p → Marks (codesOf past) (now (seen .entry)) → (known ≡ false → keySeen (labels past) (now (key .entry)) ≡ false) → r ≡ seenBefore (shape format) (labels past) (record { code = code; key = now (key .entry) })) ⌝ }
 {
     let at = code as usize;
     match format {
@@ -132,55 +140,48 @@ fn is_seen(
     }
 }
 
-// What is wrong with the entry at p that has this frame: 7, then 8, and 0 for nothing.
-fn fault_at(
+// What is wrong with an entry of this code, key and value: 7, then 8 where it comes a second time, and 0 for nothing.
+fn fault_of(
     format: Format,
     edition: u32,
-    image: &[u8],
-    start: usize,
-    end: usize,
-    p: usize,
-    f: Frame,
-    known: bool,
-    seen: &[u8; 256],
+    code: u32,
+    key: &[u8],
+    value: &[u8],
+    repeated: bool,
 ) -> u32
-    requires { ⌜ (start ≤ end) × IsDone (walked format (now image) start end) × (f .code < 256) ⌝ }
-    requires { ⌜ Marks (codesOf (before (rawsIn (walked format (now image) start end)) start p)) (now seen) ⌝ }
-    requires { ⌜ (p + f .size ≤ end) × (f .key + f .klen ≤ f .size) × (f .val + f .vlen ≤ f .size) × (f .size ≤ length (part p (end - p) (now image))) ⌝ }
-    requires { ⌜ (known ≡ false → keySeen (labels (before (rawsIn (walked format (now image) start end)) start p)) (part (p + f .key) (f .klen) (now image)) ≡ false) ⌝ }
-    ensures { λ r. ⌜ r ≡ fault (shape format) edition (labels (before (rawsIn (walked format (now (image .entry)) start end)) start p)) (content (record { bytes = take (f .size) (part p (end - p) (now (image .entry))); frame = f })) ⌝ }
+    ensures { λ r. ⌜ ((seen : List Label) → repeated ≡ seenBefore (shape format) seen (record { code = code; key = now (key .entry) }) → r ≡ fault (shape format) edition seen (record { code = code; key = now (key .entry); value = now (value .entry) })) ⌝ }
 {
-    let code = f.code;
     if !frames::is_named(format, edition, code) {
         return 0;
     }
-    let key = frames::part_of(image, p + f.key, f.klen);
     if !frames::reader_key(format, code, key) {
         return 7;
     }
-    if !frames::value_rule(format, code, frames::part_of(image, p + f.val, f.vlen)) {
+    if !frames::value_rule(format, code, value) {
         return 7;
     }
-    if is_seen(format, image, start, end, p, code, key, known, seen) {
+    if repeated {
         return 8;
     }
     0
 }
 
-// The rules, entry by entry, and the required fields: one pass over the frames, with a filter of the keys passed.
-fn judge_image(
+// One pass over the entries, for the frames and for the rules: a broken frame anywhere comes before what the rules say, so that after the first fault only the frames are looked at.
+// The filter is for the keys that are passed.
+fn read_entries(
     filter: &mut [u64],
     format: Format,
     edition: u32,
     image: &[u8],
     start: usize,
     end: usize,
-) -> Judgement
-    requires { ⌜ (start ≤ end) × IsDone (walked format (now image) start end) ⌝ }
-    ensures { λ r. ⌜ r ≡ judged format edition (rawsIn (walked format (now (image .entry)) start end)) start ⌝ }
+) -> Ending
+    requires { ⌜ start ≤ end ⌝ }
+    ensures { λ r. ⌜ r ≡ endingOf format edition (walked format (now (image .entry)) start end) start ⌝ }
 {
     let mut seen = [0u8; 256];
     let mut p = start;
+    let mut n: usize = 0;
     let mut shut = false;
     loop {
         let x = frames::next_frame(format, shut, image, p, end);
@@ -189,40 +190,43 @@ fn judge_image(
                 let code = f.code;
                 let key = frames::part_of(image, p + f.key, f.klen);
                 let known = keys::note_key(filter, code, key);
-                let k = fault_at(format, edition, image, start, end, p, f, known, &seen);
+                let repeated = is_seen(format, image, start, end, p, code, key, known, &seen);
+                let value = frames::part_of(image, p + f.val, f.vlen);
+                let k = fault_of(format, edition, code, key, value, repeated);
                 if k != 0 {
-                    return Judgement::Faulty(k, p);
+                    return walk_on(format, shut, image, p, end, n, Judgement::Faulty(k, p));
                 }
                 let at = code as usize;
                 seen[at] = 1;
                 shut = frames::is_last(format, code);
                 p += f.size;
+                n += 1;
             }
             Next::Ended => {
                 if frames::is_complete(format, &seen) {
-                    return Judgement::Fine;
+                    return Ending::Ends(n, p, Judgement::Fine);
                 }
-                return Judgement::Faulty(11, 0);
+                return Ending::Ends(n, p, Judgement::Faulty(11, 0));
             }
-            Next::Broken(_) => {
-                return Judgement::Fine;
+            Next::Broken(k) => {
+                return Ending::Stops(k, p);
             }
         }
     }
 }
 
 // The same with a filter for any number of keys.
-fn judge_many(format: Format, edition: u32, image: &[u8], start: usize, end: usize) -> Judgement
-    requires { ⌜ (start ≤ end) × IsDone (walked format (now image) start end) ⌝ }
-    ensures { λ r. ⌜ r ≡ judged format edition (rawsIn (walked format (now (image .entry)) start end)) start ⌝ }
+fn read_many(format: Format, edition: u32, image: &[u8], start: usize, end: usize) -> Ending
+    requires { ⌜ start ≤ end ⌝ }
+    ensures { λ r. ⌜ r ≡ endingOf format edition (walked format (now (image .entry)) start end) start ⌝ }
 {
     let mut filter = [0u64; keys::MANY];
-    judge_image(&mut filter, format, edition, image, start, end)
+    read_entries(&mut filter, format, edition, image, start, end)
 }
 
 // The same with the filter that is lent, or with a larger one where more words are asked for.
-// It calls itself, and so the compiler gives it no room for the filter of judge_many, which a call on few keys would have to touch.
-fn judge_sized(
+// It calls itself, and so the compiler gives it no room for the filter of read_many, which a call on few keys would have to touch.
+fn read_sized(
     filter: &mut [u64],
     format: Format,
     edition: u32,
@@ -230,39 +234,67 @@ fn judge_sized(
     start: usize,
     end: usize,
     words: usize,
-) -> Judgement
-    requires { ⌜ (start ≤ end) × IsDone (walked format (now image) start end) ⌝ }
-    ensures { λ r. ⌜ r ≡ judged format edition (rawsIn (walked format (now (image .entry)) start end)) start ⌝ }
+) -> Ending
+    requires { ⌜ start ≤ end ⌝ }
+    ensures { λ r. ⌜ r ≡ endingOf format edition (walked format (now (image .entry)) start end) start ⌝ }
 {
     if words <= filter.len() {
-        return judge_image(filter, format, edition, image, start, end);
+        return read_entries(filter, format, edition, image, start, end);
     }
     if words <= keys::MORE {
         let mut larger = [0u64; keys::MORE];
-        return judge_sized(&mut larger, format, edition, image, start, end, words);
+        return read_sized(&mut larger, format, edition, image, start, end, words);
     }
-    judge_many(format, edition, image, start, end)
+    read_many(format, edition, image, start, end)
 }
 
-// The same for so many entries, without a filter for few keys.
-fn judge_entries(
+// The same with a filter of at least so many words, and with none where none are asked for.
+fn read_with(
+    words: usize,
     format: Format,
     edition: u32,
     image: &[u8],
     start: usize,
     end: usize,
-    count: usize,
-) -> Judgement
-    requires { ⌜ (start ≤ end) × IsDone (walked format (now image) start end) ⌝ }
-    ensures { λ r. ⌜ r ≡ judged format edition (rawsIn (walked format (now (image .entry)) start end)) start ⌝ }
+) -> Ending
+    requires { ⌜ start ≤ end ⌝ }
+    ensures { λ r. ⌜ r ≡ endingOf format edition (walked format (now (image .entry)) start end) start ⌝ }
 {
-    let words = keys::filter_words(format, count);
     if words == 0 {
         let mut none = [0u64; 0];
-        return judge_image(&mut none, format, edition, image, start, end);
+        return read_entries(&mut none, format, edition, image, start, end);
     }
     let mut filter = [0u64; keys::FEW];
-    judge_sized(&mut filter, format, edition, image, start, end, words)
+    read_sized(&mut filter, format, edition, image, start, end, words)
+}
+
+// Whether entries have keys.
+fn is_keyed(format: Format) -> bool
+    ensures { λ r. ⌜ r ≡ shape format .keyed ⌝ }
+{
+    match format {
+        Format::Fboss => false,
+        Format::Vpd => true,
+        Format::Tiny => false,
+    }
+}
+
+// The same for any entries. Where they have keys the frames are looked at first, as the size of the filter goes by their number.
+fn read_room(format: Format, edition: u32, image: &[u8], start: usize, end: usize) -> Ending
+    requires { ⌜ start ≤ end ⌝ }
+    ensures { λ r. ⌜ r ≡ endingOf format edition (walked format (now (image .entry)) start end) start ⌝ }
+{
+    if !is_keyed(format) {
+        return read_with(0, format, edition, image, start, end);
+    }
+    let w = walk_on(format, false, image, start, end, 0, Judgement::Fine);
+    match w {
+        Ending::Stops(k, p) => Ending::Stops(k, p),
+        Ending::Ends(count, _, _) => {
+            let words = keys::filter_words(format, count);
+            read_with(words, format, edition, image, start, end)
+        }
+    }
 }
 
 fn refused(number: u32, place: usize) -> Taken
@@ -290,14 +322,13 @@ fn take_room(format: Format, edition: u32, image: &[u8], start: usize, end: usiz
     requires { ⌜ (start ≤ end) × (end ≤ 65536) ⌝ }
     ensures { λ r. ⌜ r ≡ roomTaken (readWalked (walked format (now (image .entry)) start end) format edition (now (image .entry)) start) end ⌝ }
 {
-    let w = walk_image(format, image, start, end);
+    let w = read_room(format, edition, image, start, end);
     match w {
         Ending::Stops(k, p) => refused(k, p),
-        Ending::Ends(count, p) => {
+        Ending::Ends(count, p, j) => {
             if !frames::is_sealed(format, image, p) {
                 return refused(10, p + closing_length(format));
             }
-            let j = judge_entries(format, edition, image, start, end, count);
             match j {
                 Judgement::Faulty(k, q) => refused(k, q),
                 Judgement::Fine => Taken::Is(Room {

@@ -1,6 +1,6 @@
 -- The records of all entries over lent bytes, one after another along a pass over an image.
 -- Assumes nothing.
-use Prim.Native.Nat.{ℕ, suc, _+_, _*_, _-_, _≤_, _<_}
+use Prim.Native.Nat.{ℕ, _+_, _*_, _-_, _≤_, _<_}
 use mathlib.Core.Path.{_≡_, refl, ap, sym, _∙_}
 use mathlib.Core.List.{List, [], _∷_, _++_, append-assoc, append-nil}
 use mathlib.Core.Bool.{Bool, false}
@@ -25,11 +25,10 @@ use Rattle.laws.proofs.Passes.{Passing, pass-first, pass-on, pass-ends, pass-un
 use Rattle.output.specs.Placing.{over, copied}
 use Rattle.output.proofs.Overlay.{length-over, over-nil, over-over, copied-over}
 use Rattle.reader.specs.declared.Standing.{Standing}
-use Rattle.reader.specs.declared.Here.{Here}
 use Rattle.reader.specs.declared.Here.the-variants.{Stands, Over}
 use Rattle.reader.specs.Here.{hereBy, hereAt}
 use Rattle.reader.proofs.Lying.{framed-lies}
-use Rattle.records.specs.Words.{wordsBytes, readingWords, recordWords, recordBytes, recordsBytes}
+use Rattle.records.specs.Words.{recordBytes, recordsBytes}
 use Rattle.records.proofs.Words.{length-record, length-records}
 
 -- ---- records
@@ -73,7 +72,7 @@ module _ (g : Format) (e : ℕ) (image : List ℕ) (start end : ℕ) where
 
   -- the records of the entries before p are written over d
   pub record Filling (d out : List ℕ) (p at : ℕ) (shut : Bool) : Type 0 where
-    pub pass : Passing (shape g) (grammar g) image start end all p shut
+    pub pass : Passing (shape g) (grammar g) image end p shut
     pub made : List Entry
     pub joined : entries ≡ made ++ entriesOf (shape g) e p (pass .todo)
     pub place : at ≡ length made * 64
@@ -108,7 +107,7 @@ module _ (g : Format) (e : ℕ) (image : List ℕ) (start end : ℕ) where
     filling-goes s out′ q is =
         let h = here-framed (shape g) e image shut p end s q in
         let f = h .frame in
-        let x = pass-on (laws g) image start end all p shut f (w .pass) (h .reads) in
+        let x = pass-on (laws g) image end p shut f (w .pass) (h .reads) in
         let l = framed-lies g shut image p end f (h .reads) in
         let r = recordBytes (s .entry) in
         let rest = entriesOf (shape g) e (p + f .size) (x .todo) in
@@ -156,5 +155,5 @@ module _ (g : Format) (e : ℕ) (image : List ℕ) (start end : ℕ) where
       where
         go : (x : Next) → next (shape g) shut (part p (end - p) image) ≡ x → hereBy x (shape g) e p (part p (end - p) image) ≡ Over → w .pass .todo ≡ []
         go (Framed f) n q = let z : _≡_ {A = ℕ} 0 1 = cc in absurd (omega arith)
-        go Ended n q = pass-ends (laws g) image start end all p shut (w .pass) n
-        go (Broken k) n q = absurd (pass-unbroken (laws g) image start end all p shut k (w .pass) n)
+        go Ended n q = pass-ends (laws g) image end p shut (w .pass) n
+        go (Broken k) n q = absurd (pass-unbroken (laws g) image end p shut k (w .pass) n)

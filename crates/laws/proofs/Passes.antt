@@ -2,15 +2,12 @@
 -- Assumes nothing.
 use Prim.Native.Nat.{ℕ, zero, suc, _+_, _-_, _≤_, _<_}
 use mathlib.Core.Path.{_≡_, refl, ap, ap₂, sym, _∙_}
-use mathlib.Core.List.{List, [], _∷_, _++_, append-assoc, append-nil}
-use mathlib.Core.Bool.{Bool, true, false}
+use mathlib.Core.List.{List, [], _∷_, _++_, append-assoc}
+use mathlib.Core.Bool.{Bool, false}
 use native.Mathlib.Omega.{arith}
-use native.Mathlib.Nat.{add-zero}
-use lib.ListN.{length, getD, take, drop, length-append, length-drop, length-take}
+use lib.ListN.{length, getD, take, drop, length-append, length-take}
 use lib.Seq.{take-take, take-at, drop-at, drop-drop, take-nil, getD-take, getD-drop}
-use borrow.Author.Tests.{lt-ltb, le-ltb}
 use Rattle.layout.specs.declared.Frame.{Frame}
-use Rattle.layout.specs.declared.Headed.the-variants.{Ends}
 use Rattle.layout.specs.declared.Next.the-variants.{Framed, Ended, Broken}
 use Rattle.layout.specs.Bytes.{part}
 use Rattle.layout.specs.Shape.{Shape, onHead, next}
@@ -18,10 +15,10 @@ use Rattle.layout.specs.declared.Format.{Format}
 use Rattle.layout.specs.Editions.{shape}
 use Rattle.layout.specs.Walk.{Raw, flat, Walked, done, stop}
 use Rattle.laws.specs.Grammar.{Grammar, grammar}
-use Rattle.laws.specs.Passes.{walked, IsDone, rawsIn, before}
+use Rattle.laws.specs.Passes.{walked, IsDone, rawsIn}
 use Rattle.laws.proofs.Format.{Laws}
-use Rattle.laws.proofs.Frames.{rawOf, IsRaw, raw-size, raw-some, raw-reads}
-use Rattle.laws.proofs.Walking.{Frames, EndsAt, Decoded, walk-decode, decoded-ends}
+use Rattle.laws.proofs.Frames.{rawOf, IsRaw, raw-size, raw-reads}
+use Rattle.laws.proofs.Walking.{Frames, EndsAt, walk-decode, decoded-ends}
 use Rattle.laws.proofs.Formats.{laws}
 
 drop-take : (n m : ℕ) (l : List ℕ) → drop n (take m l) ≡ take (m - n) (drop n l)
@@ -43,12 +40,9 @@ pub part-most : (image : List ℕ) (p n : ℕ) → length (part p n image) ≤ n
 unfolding part
 part-most image p n = omega (arith, length-take n (drop p image))
 
--- a pass over `all` entries stands at p: some are passed, the others are to do
-pub record Passing (S : Shape) (G : Grammar) (image : List ℕ) (start end : ℕ) (all : List Raw) (p : ℕ) (shut : Bool) : Type 0 where
-  pub past : List Raw
+-- a pass over entries stands at p: those that are to do
+pub record Passing (S : Shape) (G : Grammar) (image : List ℕ) (end p : ℕ) (shut : Bool) : Type 0 where
   pub todo : List Raw
-  pub joined : all ≡ past ++ todo
-  pub place : p ≡ start + length (flat past)
   pub rest : List ℕ
   pub room : part p (end - p) image ≡ flat todo ++ rest
   pub ends : EndsAt S rest
@@ -77,31 +71,19 @@ part-within image p m a n size le fits =
     ∙ take-take n (m - a) (drop a (drop p image)) (omega arith)
     ∙ ap (take n) (drop-drop a p image)
 
--- the entries laid flat, one more
-pub flat-snoc : (rs : List Raw) (r : Raw) → flat (rs ++ (r ∷ [])) ≡ flat rs ++ r .bytes
-flat-snoc [] r = append-nil (r .bytes)
-flat-snoc (x ∷ rs) r = ap (λ (l : List ℕ). x .bytes ++ l) (flat-snoc rs r) ∙ sym (append-assoc (x .bytes) (flat rs) (r .bytes))
-
-module _ {S : Shape} {G : Grammar} (L : Laws S G) (image : List ℕ) (start end : ℕ) (all : List Raw) where
-  -- a pass begins at the first entry
-  pub pass-begins : (rest : List ℕ) → part start (end - start) image ≡ flat all ++ rest → EndsAt S rest → Frames S G false all → start ≤ end →
-      Passing S G image start end all start false
-  pass-begins rest room ends frames le =
-      record { past = []; todo = all; joined = refl; place = sym (add-zero start); rest = rest; room = room; ends = ends; frames = frames; bound = le }
-
+module _ {S : Shape} {G : Grammar} (L : Laws S G) (image : List ℕ) (end : ℕ) where
   -- how a pass goes on after a frame: the next entry to do is that frame's
-  pub record Onward (p : ℕ) (shut : Bool) (f : Frame) (was : Passing S G image start end all p shut) : Type 0 where
+  pub record Onward (p : ℕ) (shut : Bool) (f : Frame) (was : Passing S G image end p shut) : Type 0 where
     pub raw : Raw
     pub todo : List Raw
     pub heads : was .todo ≡ raw ∷ todo
     pub isRaw : IsRaw G raw
     pub frame : raw .frame ≡ f
     pub isRawOf : raw ≡ rawOf f (part p (end - p) image)
-    pub on : Passing S G image start end all (p + f .size) (S .last (f .code))
-    pub pastOn : on .past ≡ was .past ++ (raw ∷ [])
+    pub on : Passing S G image end (p + f .size) (S .last (f .code))
     pub todoOn : on .todo ≡ todo
 
-  ended-todo : (p : ℕ) (shut : Bool) (w : Passing S G image start end all p shut) (f : Frame) → w .todo ≡ [] → next S shut (part p (end - p) image) ≡ Framed f → ⊥
+  ended-todo : (p : ℕ) (shut : Bool) (w : Passing S G image end p shut) (f : Frame) → w .todo ≡ [] → next S shut (part p (end - p) image) ≡ Framed f → ⊥
   unfolding next
   ended-todo p shut w f e n =
       let z : part p (end - p) image ≡ w .rest = w .room ∙ ap (λ (l : List Raw). flat l ++ w .rest) e in
@@ -110,7 +92,7 @@ module _ {S : Shape} {G : Grammar} (L : Laws S G) (image : List ℕ) (start end 
       let c : _≡_ {A = ℕ} 0 1 = cc in
       omega arith
 
-  onward : (p : ℕ) (shut : Bool) (f : Frame) (w : Passing S G image start end all p shut) (todo : List Raw) → w .todo ≡ todo → Frames S G shut todo →
+  onward : (p : ℕ) (shut : Bool) (f : Frame) (w : Passing S G image end p shut) (todo : List Raw) → w .todo ≡ todo → Frames S G shut todo →
       next S shut (part p (end - p) image) ≡ Framed f → Onward p shut f w
   onward p shut f w [] e fs n = absurd (ended-todo p shut w f e n)
   onward p shut f w (r ∷ rs) e fs n =
@@ -119,7 +101,6 @@ module _ {S : Shape} {G : Grammar} (L : Laws S G) (image : List ℕ) (start end 
       let same : r .frame ≡ f = cc in
       let size : length (r .bytes) ≡ f .size = raw-size (fs .1) ∙ ap (λ (g : Frame). g .size) same in
       let bytes : r .bytes ≡ take (f .size) (part p (end - p) image) = sym (ap (take (f .size)) room ∙ take-at (r .bytes) (flat rs ++ w .rest) (f .size) size) in
-      let flats : flat (w .past ++ (r ∷ [])) ≡ flat (w .past) ++ r .bytes = flat-snoc (w .past) r in
       let long : length (part p (end - p) image) ≡ length (r .bytes) + length (flat rs ++ w .rest) = ap length room ∙ length-append (r .bytes) (flat rs ++ w .rest) in
       record {
         raw = r;
@@ -130,37 +111,33 @@ module _ {S : Shape} {G : Grammar} (L : Laws S G) (image : List ℕ) (start end 
         isRawOf = ap₂ (λ (x : List ℕ) (y : Frame). record { bytes = x; frame = y }) bytes same;
         on =
             record {
-              past = w .past ++ (r ∷ []);
               todo = rs;
-              joined = w .joined ∙ ap (λ (l : List Raw). w .past ++ l) e ∙ sym (append-assoc (w .past) (r ∷ []) rs);
-              place = omega (arith, w .place, ap length flats, length-append (flat (w .past)) (r .bytes));
               rest = w .rest;
               room = sym (part-on image p (f .size) end) ∙ ap (drop (f .size)) room ∙ drop-at (r .bytes) (flat rs ++ w .rest) (f .size) size;
               ends = w .ends;
               frames = rw (← same) (fs .2);
               bound = omega (arith, part-most image p (end - p), w .bound);
             };
-        pastOn = refl;
         todoOn = refl;
       }
 
   -- a frame that is read is the next entry's
-  pub pass-on : (p : ℕ) (shut : Bool) (f : Frame) (w : Passing S G image start end all p shut) → next S shut (part p (end - p) image) ≡ Framed f → Onward p shut f w
+  pub pass-on : (p : ℕ) (shut : Bool) (f : Frame) (w : Passing S G image end p shut) → next S shut (part p (end - p) image) ≡ Framed f → Onward p shut f w
   pass-on p shut f w n = onward p shut f w (w .todo) refl (w .frames) n
 
   -- where no frame is read, nothing is left to do, and the entries end there
-  last-todo : (p : ℕ) (shut : Bool) (w : Passing S G image start end all p shut) (todo : List Raw) → w .todo ≡ todo → Frames S G shut todo →
+  last-todo : (p : ℕ) (shut : Bool) (w : Passing S G image end p shut) (todo : List Raw) → w .todo ≡ todo → Frames S G shut todo →
       ((f : Frame) → next S shut (part p (end - p) image) ≡ Framed f → ⊥) → todo ≡ []
   last-todo p shut w [] e fs n = refl
   last-todo p shut w (r ∷ rs) e fs n =
       let room : part p (end - p) image ≡ r .bytes ++ (flat rs ++ w .rest) = w .room ∙ ap (λ (l : List Raw). flat l ++ w .rest) e ∙ append-assoc (r .bytes) (flat rs) (w .rest) in
       absurd (n (r .frame) (rw (room, fs .0) (raw-reads L r (flat rs ++ w .rest) (fs .1))))
 
-  pub pass-ends : (p : ℕ) (shut : Bool) (w : Passing S G image start end all p shut) → next S shut (part p (end - p) image) ≡ Ended → w .todo ≡ []
+  pub pass-ends : (p : ℕ) (shut : Bool) (w : Passing S G image end p shut) → next S shut (part p (end - p) image) ≡ Ended → w .todo ≡ []
   pass-ends p shut w n = last-todo p shut w (w .todo) refl (w .frames) (λ f q. let z : _≡_ {A = ℕ} 0 1 = cc in omega arith)
 
   -- nothing is broken on the way
-  pub pass-unbroken : (p : ℕ) (shut : Bool) (k : ℕ) (w : Passing S G image start end all p shut) → next S shut (part p (end - p) image) ≡ Broken k → ⊥
+  pub pass-unbroken : (p : ℕ) (shut : Bool) (k : ℕ) (w : Passing S G image end p shut) → next S shut (part p (end - p) image) ≡ Broken k → ⊥
   unfolding next
   pass-unbroken p shut k w n =
       let e : w .todo ≡ [] = last-todo p shut w (w .todo) refl (w .frames) (λ f q. let z : _≡_ {A = ℕ} 0 1 = cc in omega arith) in
@@ -172,40 +149,15 @@ module _ {S : Shape} {G : Grammar} (L : Laws S G) (image : List ℕ) (start end 
 
 -- a pass over all entries, before the first of them
 pub record First (f : Format) (image : List ℕ) (start end : ℕ) (all : List Raw) : Type 0 where
-  pub pass : Passing (shape f) (grammar f) image start end all start false
-  pub past : pass .past ≡ []
+  pub pass : Passing (shape f) (grammar f) image end start false
   pub todo : pass .todo ≡ all
 
 -- a walk that came to its end, as a pass begins it
 pub pass-first : (f : Format) (image : List ℕ) (start end : ℕ) → start ≤ end → IsDone (walked f image start end) → First f image start end (rawsIn (walked f image start end))
-unfolding pass-begins
 pass-first f image start end le d = go (walked f image start end) refl d
   where
     go : (w : Walked) → walked f image start end ≡ w → IsDone w → First f image start end (rawsIn w)
     go (done rs q) e d =
         let x = walk-decode (laws f) start (part start (end - start) image) rs q e in
-        record { pass = pass-begins (laws f) image start end rs (x .rest) (x .joined) (decoded-ends (laws f) x) (x .frames) le; past = refl; todo = refl }
+        record { pass = record { todo = rs; rest = x .rest; room = x .joined; ends = decoded-ends (laws f) x; frames = x .frames; bound = le }; todo = refl }
     go (stop k q) e d = absurd d
-
--- the entries before the place of a pass are those that it passed
-before-flat : {S : Shape} {G : Grammar} (L : Laws S G) (b : Bool) (past todo : List Raw) (s : ℕ) → Frames S G b (past ++ todo) → before (past ++ todo) s (s + length (flat past)) ≡ past
-unfolding before
-before-flat L b [] [] s fs = refl
-before-flat L b [] (r ∷ rs) s fs = rw (le-ltb s (s + 0) (omega arith))
-before-flat {S} L b (r ∷ past) todo s fs =
-    let size = raw-size (fs .1) in
-    let some = raw-some L r (fs .1) in
-    let here : s + length (r .bytes ++ flat past) ≡ s + r .frame .size + length (flat past) = omega (arith, length-append (r .bytes) (flat past)) in
-    rw (here, lt-ltb s (s + r .frame .size + length (flat past)) (omega arith))
-    (ap (λ (l : List Raw). r ∷ l) (before-flat L (S .last (r .frame .code)) past todo (s + r .frame .size) (fs .2)))
-
-pub before-past : (f : Format) (image : List ℕ) (start end p : ℕ) (shut : Bool) → start ≤ end → IsDone (walked f image start end) →
-    (w : Passing (shape f) (grammar f) image start end (rawsIn (walked f image start end)) p shut) → before (rawsIn (walked f image start end)) start p ≡ w .past
-before-past f image start end p shut le d w =
-    let all = rawsIn (walked f image start end) in
-    let fs : Frames (shape f) (grammar f) false all = frames-all (walked f image start end) refl d in
-    rw (w .place) (rw (w .joined) (before-flat (laws f) false (w .past) (w .todo) start (rw (w .joined) at fs)))
-  where
-    frames-all : (x : Walked) → walked f image start end ≡ x → IsDone x → Frames (shape f) (grammar f) false (rawsIn x)
-    frames-all (done rs q) e d = walk-decode (laws f) start (part start (end - start) image) rs q e .frames
-    frames-all (stop k q) e d = absurd d

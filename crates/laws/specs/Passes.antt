@@ -1,11 +1,10 @@
 -- The walk that a pass over an image goes by, and the entries on its way.
 -- Assumes nothing.
-use Prim.Native.Nat.{ℕ, zero, suc, _+_, _-_}
-use mathlib.Core.List.{List, [], _∷_, map}
+use Prim.Native.Nat.{ℕ, _-_}
+use mathlib.Core.List.{List, [], map}
 use mathlib.Core.Bool.{false}
-use lib.Dec.{ltb}
 use Rattle.layout.specs.declared.Format.{Format}
-use Rattle.layout.specs.Bytes.{if, part}
+use Rattle.layout.specs.Bytes.{part}
 use Rattle.layout.specs.Shape.{Label}
 use Rattle.layout.specs.Editions.{shape}
 use Rattle.layout.specs.Walk.{Raw, content, labelOf, Walked, done, stop, walk}
@@ -25,8 +24,3 @@ rawsIn (stop k p) = []
 
 abbrev pub labels : List Raw → List Label
 labels rs = map (λ r. labelOf (content r)) rs
-
--- the entries that stand before p, where the first stands at s
-unfoldable pub before : List Raw → ℕ → ℕ → List Raw
-before [] s p = []
-before (r ∷ rs) s p = if (ltb s p) (λ _. r ∷ before rs (s + r .frame .size) p) (λ _. [])

@@ -10,22 +10,21 @@ use lib.Dec.{leb, leb→le, T as Holds}
 use Rattle.layout.specs.declared.Format.{Format}
 use Rattle.layout.specs.declared.Frame.{Frame}
 use Rattle.layout.specs.declared.Entry.{Entry}
-use Rattle.layout.specs.declared.Checked.{Checked}
 use Rattle.layout.specs.declared.Checked.the-variants.{Accepted, Refused}
 use Rattle.layout.specs.declared.Next.{Next}
 use Rattle.layout.specs.declared.Next.the-variants.{Framed, Ended, Broken}
 use Rattle.layout.specs.Bytes.{if, part, refusal}
-use Rattle.layout.specs.Shape.{Shape, next}
+use Rattle.layout.specs.Shape.{next}
 use Rattle.layout.specs.Editions.{shape}
-use Rattle.layout.specs.Walk.{Raw, Walked}
+use Rattle.layout.specs.Walk.{Raw}
 use Rattle.layout.specs.Read.{Read}
 use Rattle.layout.specs.Calls.{Listed, entryOf, entriesOf, listedBy, listEntries}
 use Rattle.laws.specs.Grammar.{grammar}
-use Rattle.laws.specs.Passes.{walked, rawsIn}
+use Rattle.laws.specs.Passes.{rawsIn}
 use Rattle.laws.proofs.Formats.{laws}
 use Rattle.laws.proofs.Frames.{rawOf}
 use Rattle.laws.proofs.Records.{entries-none, entries-more, entries-count}
-use Rattle.laws.proofs.Passes.{Passing, First, pass-first, pass-on, pass-ends, pass-unbroken}
+use Rattle.laws.proofs.Passes.{Passing, pass-first, pass-on, pass-ends, pass-unbroken}
 use Rattle.accept.specs.declared.Room.{Room}
 use Rattle.accept.specs.declared.Taken.{Taken}
 use Rattle.accept.specs.declared.Taken.the-variants.{Is, Isnt}
@@ -57,33 +56,30 @@ no-length : (rs : List Raw) → length rs ≡ 0 → rs ≡ []
 no-length [] q = refl
 no-length (r ∷ rs) q = absurd (omega (arith, q))
 
-module _ (g : Format) (e : ℕ) (image : List ℕ) (start end : ℕ) (c : Cursor) where
-  abbrev all : List Raw
-  all = rawsIn (walked g image start end)
-
+module _ (g : Format) (e : ℕ) (image : List ℕ) (end : ℕ) (c : Cursor) where
   abbrev shown : ℕ → Entry
   shown i = showing (stepped c image i)
 
-  lists : (k n p : ℕ) (shut : Bool) (w : Passing (shape g) (grammar g) image start end all p shut) → stepped c image n ≡ cursorAt g e image shut p end → length (w .todo) ≡ k →
+  lists : (k n p : ℕ) (shut : Bool) (w : Passing (shape g) (grammar g) image end p shut) → stepped c image n ≡ cursorAt g e image shut p end → length (w .todo) ≡ k →
       from shown n k ≡ entriesOf (shape g) e p (w .todo)
   unfolding from stepped
   lists zero n p shut w at l = sym (ap (entriesOf (shape g) e p) (no-length (w .todo) l) ∙ entries-none (shape g) e p)
   lists (suc k) n p shut w at l = by-next (next (shape g) shut (part p (end - p) image)) refl (λ p′ shut′ w′ at′ l′. lists k (suc n) p′ shut′ w′ at′ l′)
     where
       by-next : (x : Next) → next (shape g) shut (part p (end - p) image) ≡ x →
-          ((p′ : ℕ) (shut′ : Bool) (w′ : Passing (shape g) (grammar g) image start end all p′ shut′) → stepped c image (suc n) ≡ cursorAt g e image shut′ p′ end → length (w′ .todo) ≡ k →
+          ((p′ : ℕ) (shut′ : Bool) (w′ : Passing (shape g) (grammar g) image end p′ shut′) → stepped c image (suc n) ≡ cursorAt g e image shut′ p′ end → length (w′ .todo) ≡ k →
           from shown (suc n) k ≡ entriesOf (shape g) e p′ (w′ .todo)) →
           from shown n (suc k) ≡ entriesOf (shape g) e p (w .todo)
       by-next (Framed f) q again =
-          let x = pass-on (laws g) image start end all p shut f w q in
+          let x = pass-on (laws g) image end p shut f w q in
           let shows : shown n ≡ entryOf (shape g) e p (x .raw) = ap showing at ∙ cursor-shows g e image shut p end f (x .raw) q (x .isRawOf) in
           let steps : stepped c image (suc n) ≡ cursorAt g e image (shape g .last (f .code)) (p + f .size) end = ap (λ (d : Cursor). onward d image) at ∙ cursor-on g e image shut p end f q in
           let fewer : length (x .on .todo) ≡ k = let z = ap length (x .heads) in let y = ap length (x .todoOn) in omega (arith, l, z, y) in
           let rest : from shown (suc n) k ≡ entriesOf (shape g) e (p + f .size) (x .on .todo) = again (p + f .size) (shape g .last (f .code)) (x .on) steps fewer in
           ap₂ (λ (a : Entry) (l : List Entry). a ∷ l) shows (rest ∙ ap (entriesOf (shape g) e (p + f .size)) (x .todoOn))
           ∙ sym (ap (entriesOf (shape g) e p) (x .heads) ∙ entries-more (shape g) e p (x .raw) (x .todo) f (x .frame))
-      by-next Ended q again = let z = ap length (pass-ends (laws g) image start end all p shut w q) in absurd (omega (arith, l, z))
-      by-next (Broken b) q again = absurd (pass-unbroken (laws g) image start end all p shut b w q)
+      by-next Ended q again = let z = ap length (pass-ends (laws g) image end p shut w q) in absurd (omega (arith, l, z))
+      by-next (Broken b) q again = absurd (pass-unbroken (laws g) image end p shut b w q)
 
 -- ---- what is filled and answered
 
@@ -146,7 +142,7 @@ lists-all f e image rs = by-taken (taken f e image) refl
         let todo : first .pass .todo ≡ w .entries = first .todo ∙ ap rawsIn (w .walks) in
         let count : length es ≡ room .count = entries-count (shape g) e (room .start) (w .entries) ∙ sym (w .counts) in
         let shown-all : from (shownBy f e image) 0 (room .count) ≡ es =
-        lists g e image (room .start) (room .end) c (room .count) 0 (room .start) false (first .pass) (begins f e image room q) (ap length todo ∙ sym (w .counts))
+        lists g e image (room .end) c (room .count) 0 (room .start) false (first .pass) (begins f e image room q) (ap length todo ∙ sym (w .counts))
         ∙ ap (entriesOf (shape g) e (room .start)) todo in
         let is : listEntries f e image rs ≡ by-fit (leb (room .count) (length rs)) (room .count) es rs =
         ap (λ (x : Read). listedBy x e rs) (w .read) ∙ ap (λ (n : ℕ). by-fit (leb n (length rs)) n es rs) count in

@@ -21,26 +21,17 @@ use Rattle.layout.specs.Calls.{nth, entryOf, entriesOf, noString, stringIn, poo
 use Rattle.laws.specs.Grammar.{grammar}
 use Rattle.laws.specs.Passes.{walked, IsDone, rawsIn}
 use Rattle.laws.proofs.Formats.{laws}
-use Rattle.laws.proofs.Passes.{Passing, Onward, pass-first, pass-on, pass-ends, pass-unbroken}
+use Rattle.laws.proofs.Passes.{Passing, pass-first, pass-on, pass-ends, pass-unbroken}
 use Rattle.frames.specs.declared.Spot.the-variants.{At, Nowhere}
 use Rattle.frames.specs.Spots.{spotAt}
 use Rattle.frames.proofs.Spots.{Sized, Spotted, spot-walked}
 use Rattle.reader.proofs.Lying.{Lies, rawAt, framed-lies, value-at}
 
--- a pass over the entries of a room
-abbrev pub Pass : Format → List ℕ → ℕ → ℕ → ℕ → Bool → Type 0
-Pass g image start end p shut = Passing (shape g) (grammar g) image start end (rawsIn (walked g image start end)) p shut
-
-abbrev pub onward : (g : Format) (image : List ℕ) (start end p : ℕ) (shut : Bool) (f : Frame) (w : Pass g image start end p shut) →
-    next (shape g) shut (part p (end - p) image) ≡ Framed f → Onward (laws g) image start end (rawsIn (walked g image start end)) p shut f w
-onward g image start end p shut f w q = pass-on (laws g) image start end (rawsIn (walked g image start end)) p shut f w q
-
 -- the entry that a frame was read for
-onward-raw : (g : Format) (image : List ℕ) (start end p : ℕ) (shut : Bool) (f : Frame) (w : Pass g image start end p shut) (q : next (shape g) shut (part p (end - p) image) ≡ Framed f) →
-    onward g image start end p shut f w q .raw ≡ rawAt image p f
-onward-raw g image start end p shut f w q =
-    let x = onward g image start end p shut f w q in
-    x .isRawOf ∙ ap (λ (bs : List ℕ). record { bytes = bs; frame = f }) (framed-lies g shut image p end f q .is)
+onward-raw : (g : Format) (image : List ℕ) (end p : ℕ) (shut : Bool) (f : Frame) (w : Passing (shape g) (grammar g) image end p shut) (q : next (shape g) shut (part p (end - p) image) ≡ Framed f) →
+    pass-on (laws g) image end p shut f w q .raw ≡ rawAt image p f
+onward-raw g image end p shut f w q =
+    pass-on (laws g) image end p shut f w q .isRawOf ∙ ap (λ (bs : List ℕ). record { bytes = bs; frame = f }) (framed-lies g shut image p end f q .is)
 
 -- ---- entry n
 
@@ -96,7 +87,7 @@ pool-none p number = refl
 
 -- the pool of all is the pool of the entries from p on
 pub record Pooling (image : List ℕ) (start end number p : ℕ) (shut : Bool) : Type 0 where
-  pub pass : Pass Tiny image start end p shut
+  pub pass : Passing (shape Tiny) (grammar Tiny) image end p shut
   pub same : poolString start (rawsIn (walked Tiny image start end)) number ≡ poolString p (pass .todo) number
 
 pub pooling-starts : (image : List ℕ) (start end number : ℕ) → start ≤ end → IsDone (walked Tiny image start end) → Pooling image start end number start false
@@ -109,8 +100,8 @@ module _ {image : List ℕ} {start end number p : ℕ} {shut : Bool} (w : Poolin
   pub pooling-found : (f : Frame) → next (shape Tiny) shut (part p (end - p) image) ≡ Framed f → f .code ≡ 1 →
       poolString start (rawsIn (walked Tiny image start end)) number ≡ stringIn (part (p + f .val) (f .vlen) image) (p + f .val) 0 number
   pooling-found f q z =
-      let x = onward Tiny image start end p shut f (w .pass) q in
-      let raw = onward-raw Tiny image start end p shut f (w .pass) q in
+      let x = pass-on (laws Tiny) image end p shut f (w .pass) q in
+      let raw = onward-raw Tiny image end p shut f (w .pass) q in
       w .same
       ∙ ap (λ (rs : List Raw). poolString p rs number) (x .heads)
       ∙ ap (λ (r : Raw). poolString p (r ∷ x .todo) number) raw
@@ -121,8 +112,8 @@ module _ {image : List ℕ} {start end number p : ℕ} {shut : Bool} (w : Poolin
   pub pooling-on : (f : Frame) → next (shape Tiny) shut (part p (end - p) image) ≡ Framed f → (f .code ≡ 1 → ⊥) →
       Pooling image start end number (p + f .size) (shape Tiny .last (f .code))
   pooling-on f q un =
-      let x = onward Tiny image start end p shut f (w .pass) q in
-      let raw = onward-raw Tiny image start end p shut f (w .pass) q in
+      let x = pass-on (laws Tiny) image end p shut f (w .pass) q in
+      let raw = onward-raw Tiny image end p shut f (w .pass) q in
       record {
         pass = x .on;
         same =
@@ -137,8 +128,8 @@ module _ {image : List ℕ} {start end number p : ℕ} {shut : Bool} (w : Poolin
   pub pooling-over : next (shape Tiny) shut (part p (end - p) image) ≡ Ended → poolString start (rawsIn (walked Tiny image start end)) number ≡ noString
   pooling-over q =
       w .same
-      ∙ ap (λ (rs : List Raw). poolString p rs number) (pass-ends (laws Tiny) image start end (rawsIn (walked Tiny image start end)) p shut (w .pass) q)
+      ∙ ap (λ (rs : List Raw). poolString p rs number) (pass-ends (laws Tiny) image end p shut (w .pass) q)
       ∙ pool-none p number
 
   pub pooling-unbroken : {A : Type 0} (k : ℕ) → next (shape Tiny) shut (part p (end - p) image) ≡ Broken k → A
-  pooling-unbroken k q = absurd (pass-unbroken (laws Tiny) image start end (rawsIn (walked Tiny image start end)) p shut k (w .pass) q)
+  pooling-unbroken k q = absurd (pass-unbroken (laws Tiny) image end p shut k (w .pass) q)

@@ -1,20 +1,22 @@
--- `accept::take_room` meets its contract: the walk, the check, and the judgement.
+-- `accept::take_room` meets its contract: the pass over frames and rules, and between the two the check.
 -- Assumes nothing.
-use Prim.Native.Nat.{ℕ, _+_, _≤_}
-use mathlib.Core.Path.{_≡_, refl, ap, sym, _∙_}
+use Prim.Native.Nat.{ℕ, _+_}
+use mathlib.Core.Path.{ap, sym, _∙_}
 use native.Mathlib.Omega.{arith}
 use borrow.Author.Needs.{needs}
 use borrow.Author.Tests.{not-true, not-false}
 use denote.Ref.{now}
 use Rattle.layout.specs.Bytes.{refusal}
 use Rattle.laws.proofs.Rooms.{closing-short}
-use Rattle.accept.specs.declared.Taken.the-variants.{Is, Isnt}
+use Rattle.accept.specs.declared.Ending.the-variants.{Ends}
+use Rattle.accept.specs.declared.Judgement.the-variants.{Fine, Faulty}
+use Rattle.accept.specs.declared.Taken.the-variants.{Isnt}
 use Rattle.accept.proofs.Taking.{ends-done, room-stops, room-unsealed, room-faulty, room-fine}
 use Rattle.accept.proofs.take_room.Statement.{statement}
 use Rattle.accept.proofs.take_room.Tie as tie
 
-walk-image-requires : tie.Need-walk-image-requires
-walk-image-requires c κs = search needs
+read-room-requires : tie.Need-read-room-requires
+read-room-requires c κs = search needs
 
 enum-known-w : tie.Need-enum-known-w
 enum-known-w c = search needs
@@ -37,7 +39,7 @@ add-refused c =
     let image = now (a .image) in
     let n = c .before .before .before .before .w2 .given .0 .0 in
     let p = c .before .before .before .before .w2 .given .0 .1 .0 in
-    let d = ends-done (a .format) image (a .start) (a .end) n p (sym (c .before .before .before .before .before .before .walk-image .ensures) ∙ c .before .before .before .before .w2 .given .1) in
+    let d = ends-done (a .format) (a .edition) image (a .start) (a .end) n p (c .before .before .before .before .w2 .given .0 .1 .1 .0) (sym (c .before .before .before .before .before .before .read-room .ensures) ∙ c .before .before .before .before .w2 .given .1) in
     let short = closing-short (a .format) in
     omega (arith, d .bound (c .before .before .before .before .before .before .before .before .pre .0), c .before .before .before .before .before .before .before .before .pre .1, c .closing-length .ensures)
 
@@ -50,18 +52,9 @@ returns c =
     let image = now (a .image) in
     let n = c .before .before .before .before .before .w2 .given .0 .0 in
     let p = c .before .before .before .before .before .w2 .given .0 .1 .0 in
-    let d = ends-done (a .format) image (a .start) (a .end) n p (sym (c .before .before .before .before .before .before .before .walk-image .ensures) ∙ c .before .before .before .before .before .w2 .given .1) in
+    let d = ends-done (a .format) (a .edition) image (a .start) (a .end) n p (c .before .before .before .before .before .w2 .given .0 .1 .1 .0) (sym (c .before .before .before .before .before .before .before .read-room .ensures) ∙ c .before .before .before .before .before .w2 .given .1) in
     let s = sym (c .before .before .before .is-sealed .ensures) ∙ not-true _ (c .before .before .if1 .taken) in
-    c .refused2 .ensures ∙ ap (λ (k : ℕ). Isnt (refusal 10 (p + k))) (c .before .closing-length .ensures) ∙ sym (room-unsealed (a .format) (a .edition) image (a .start) (a .end) n p d s)
-
-judge-entries-requires : tie.Need-judge-entries-requires
-judge-entries-requires c κs =
-    let a = c .before .before .before .before .before .before .before .args in
-    let image = now (a .image) in
-    let n = c .before .before .before .w2 .given .0 .0 in
-    let p = c .before .before .before .w2 .given .0 .1 .0 in
-    let d = ends-done (a .format) image (a .start) (a .end) n p (sym (c .before .before .before .before .before .walk-image .ensures) ∙ c .before .before .before .w2 .given .1) in
-    (c .before .before .before .before .before .before .before .pre .0, d .isDone)
+    c .refused2 .ensures ∙ ap (λ (k : ℕ). Isnt (refusal 10 (p + k))) (c .before .closing-length .ensures) ∙ sym (room-unsealed (a .format) (a .edition) image (a .start) (a .end) n p (c .before .before .before .before .before .w2 .given .0 .1 .1 .0) d s)
 
 enum-known-j : tie.Need-enum-known-j
 enum-known-j c = search needs
@@ -75,38 +68,37 @@ enum-told c = search needs
 returns-2 : tie.Need-returns-2
 returns-2 c =
     let a = c .before .before .before .before .before .before .args in
-    let image = now (a .image) in
     let k = c .before .before .w .given .0 .0 in
     let p = c .before .before .w .given .0 .1 .0 in
-    c .refused .ensures ∙ sym (room-stops (a .format) (a .edition) image (a .start) (a .end) k p (sym (c .before .before .before .before .walk-image .ensures) ∙ c .before .before .w .given .1))
+    c .refused .ensures ∙ sym (room-stops (a .format) (a .edition) (now (a .image)) (a .start) (a .end) k p (sym (c .before .before .before .before .read-room .ensures) ∙ c .before .before .w .given .1))
 
 returns-3 : tie.Need-returns-3
 returns-3 c =
-    let a = c .before .before .before .before .before .before .before .before .before .before .before .before .args in
+    let a = c .before .before .before .before .before .before .before .before .before .before .before .args in
     let image = now (a .image) in
-    let n = c .before .before .before .before .before .before .before .before .w2 .given .0 .0 in
-    let p = c .before .before .before .before .before .before .before .before .w2 .given .0 .1 .0 in
-    let d = ends-done (a .format) image (a .start) (a .end) n p (sym (c .before .before .before .before .before .before .before .before .before .before .walk-image .ensures) ∙ c .before .before .before .before .before .before .before .before .w2 .given .1) in
-    let s = sym (c .before .before .before .before .before .before .is-sealed .ensures) ∙ not-false _ (c .before .before .before .before .before .if1 .left) in
+    let n = c .before .before .before .before .before .before .before .w2 .given .0 .0 in
+    let p = c .before .before .before .before .before .before .before .w2 .given .0 .1 .0 in
     let k = c .before .before .j .given .0 .0 in
     let q = c .before .before .j .given .0 .1 .0 in
-    c .refused3 .ensures ∙ sym (room-faulty (a .format) (a .edition) image (a .start) (a .end) n p d k q s (sym (c .before .before .j .given .1) ∙ c .before .before .before .before .judge-entries .ensures))
+    let d = ends-done (a .format) (a .edition) image (a .start) (a .end) n p (Faulty k q) (sym (c .before .before .before .before .before .before .before .before .before .read-room .ensures) ∙ c .before .before .before .before .before .before .before .w2 .given .1 ∙ ap (Ends n p) (c .before .before .j .given .1)) in
+    let s = sym (c .before .before .before .before .before .is-sealed .ensures) ∙ not-false _ (c .before .before .before .before .if1 .left) in
+    c .refused3 .ensures ∙ sym (room-faulty (a .format) (a .edition) image (a .start) (a .end) n p k q d s)
 
 returns-4 : tie.Need-returns-4
 returns-4 c =
-    let a = c .before .before .before .before .before .before .before .before .before .before .args in
+    let a = c .before .before .before .before .before .before .before .before .before .args in
     let image = now (a .image) in
-    let n = c .before .before .before .before .before .before .w2 .given .0 .0 in
-    let p = c .before .before .before .before .before .before .w2 .given .0 .1 .0 in
-    let d = ends-done (a .format) image (a .start) (a .end) n p (sym (c .before .before .before .before .before .before .before .before .walk-image .ensures) ∙ c .before .before .before .before .before .before .w2 .given .1) in
-    let s = sym (c .before .before .before .before .is-sealed .ensures) ∙ not-false _ (c .before .before .before .if1 .left) in
-    sym (room-fine (a .format) (a .edition) image (a .start) (a .end) n p d s (sym (c .enum-told .given .1) ∙ c .before .before .judge-entries .ensures))
+    let n = c .before .before .before .before .before .w2 .given .0 .0 in
+    let p = c .before .before .before .before .before .w2 .given .0 .1 .0 in
+    let d = ends-done (a .format) (a .edition) image (a .start) (a .end) n p Fine (sym (c .before .before .before .before .before .before .before .read-room .ensures) ∙ c .before .before .before .before .before .w2 .given .1 ∙ ap (Ends n p) (c .enum-told .given .1)) in
+    let s = sym (c .before .before .before .is-sealed .ensures) ∙ not-false _ (c .before .before .if1 .left) in
+    sym (room-fine (a .format) (a .edition) image (a .start) (a .end) n p d s)
 
 pub take-room-spec : {M : Type 1} → statement M
 take-room-spec =
     tie.close
     (tie.spec
-    walk-image-requires
+    read-room-requires
     enum-known-w
     refused-requires
     enum-known-w-2
@@ -115,7 +107,6 @@ take-room-spec =
     add-refused
     refused-requires-2
     returns
-    judge-entries-requires
     enum-known-j
     refused-requires-3
     enum-told
