@@ -43,7 +43,7 @@ pub enum Reading {
     Text,
     Number(u32),
     // an address block: the 48-bit base, and the count
-    Addresses(u64, u32),
+    Addresses(u64, u64),
     // the number of a string
     Numbered(StringNumber),
     // test flags: the byte, and the number of tests passed

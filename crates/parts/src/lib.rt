@@ -50,10 +50,10 @@ pub fn six_bytes(s: &[u8]) -> u64
 }
 
 // The two bytes after the first six as one number, high byte first: the count of an address block.
-pub fn two_bytes(s: &[u8]) -> u32
+pub fn two_bytes(s: &[u8]) -> u64
     ensures { λ r. ⌜ r ≡ highFirst 0 (part 6 2 (now (s .entry))) ⌝ }
 {
-    high_first(s, 6, 8) as u32
+    high_first(s, 6, 8)
 }
 
 // Whether two parts are the same bytes.

@@ -139,7 +139,7 @@ fn reading_words(r: Reading) -> [u64; 8]
             3,
             base / 4294967296,
             base % 4294967296,
-            count as u64,
+            count,
             0,
             0,
             0,

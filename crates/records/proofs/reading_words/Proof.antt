@@ -20,20 +20,17 @@ cast-t12 c = search needs
 enum-known-r-2 : tie.Need-enum-known-r-2
 enum-known-r-2 c = search needs
 
-cast-t15 : tie.Need-cast-t15
-cast-t15 c = search needs
-
 enum-known-r-3 : tie.Need-enum-known-r-3
 enum-known-r-3 c = search needs
 
 enum-known-r-4 : tie.Need-enum-known-r-4
 enum-known-r-4 c = search needs
 
+cast-t16 : tie.Need-cast-t16
+cast-t16 c = search needs
+
 cast-t17 : tie.Need-cast-t17
 cast-t17 c = search needs
-
-cast-t18 : tie.Need-cast-t18
-cast-t18 c = search needs
 
 enum-known-r-5 : tie.Need-enum-known-r-5
 enum-known-r-5 c = search needs
@@ -91,11 +88,10 @@ reading-words-spec =
     enum-known-r
     cast-t12
     enum-known-r-2
-    cast-t15
     enum-known-r-3
     enum-known-r-4
+    cast-t16
     cast-t17
-    cast-t18
     enum-known-r-5
     identity-words-requires
     enum-known-r-6
