@@ -1,9 +1,10 @@
 // What a call's format and edition come to, and what stands at a place of an image, for any format.
 ghost use mathlib.Core.Path.{_≡_};
 ghost use mathlib.Core.Bool.{false};
-ghost use Prim.Native.Nat.{_-_, _*_, _<_};
+ghost use Prim.Native.Nat.{_+_, _-_, _*_, _<_};
+ghost use lib.Dec.{leb};
 ghost use Rattle.layout.specs.Bytes.{part};
-ghost use Rattle.layout.specs.Shape.{next};
+ghost use Rattle.layout.specs.Shape.{onLength, onHead, next};
 ghost use Rattle.layout.specs.Editions.{shape, withEdition, chosen, names, kind};
 ghost use Rattle.layout.specs.Read.{sealed};
 ghost use Rattle.laws.specs.Marked.{allMarked};
@@ -148,16 +149,6 @@ pub fn part_of(s: &[u8], at: usize, n: usize) -> &[u8]
     &s[at..end]
 }
 
-fn head_of(format: Format, shut: bool, s: &[u8]) -> Headed
-    ensures { λ r. ⌜ r ≡ shape format .head shut (now (s .entry)) ⌝ }
-{
-    match format {
-        Format::Fboss => fboss::fboss_head(s),
-        Format::Vpd => vpd::vpd_head(s),
-        Format::Tiny => tiny::tiny_head(shut, s),
-    }
-}
-
 fn length_of(format: Format, s: &[u8], h: Head) -> Length
     ensures { λ r. ⌜ r ≡ shape format .vlen h (now (s .entry)) ⌝ }
 {
@@ -171,35 +162,63 @@ fn length_of(format: Format, s: &[u8], h: Head) -> Length
     }
 }
 
-// The frame at the front of s. `shut`: the entry before was one that none may follow.
-fn frame_of(format: Format, shut: bool, s: &[u8]) -> Next
-    ensures { λ r. ⌜ r ≡ next (shape format) shut (now (s .entry)) ⌝ }
+// Whether n bytes from `at` on lie in a room of so many bytes.
+fn is_inside(room: usize, at: usize, n: usize) -> bool
+    ensures { λ r. ⌜ r ≡ leb (at + n) room ⌝ }
 {
-    let x = head_of(format, shut, s);
+    if room < at {
+        return false;
+    }
+    if room - at < n {
+        return false;
+    }
+    true
+}
+
+// The frame at the front of s that has this head and this length.
+fn on_length(l: Length, h: Head, s: &[u8]) -> Next
+    ensures { λ r. ⌜ r ≡ onLength l h (now (s .entry)) ⌝ }
+{
+    match l {
+        Length::Fails(k) => Next::Broken(k),
+        Length::Reads(v, j) => {
+            if is_inside(s.len(), j, v) {
+                Next::Framed(Frame {
+                    code: h.code,
+                    key: h.key,
+                    klen: h.klen,
+                    at: h.at,
+                    val: j,
+                    vlen: v,
+                    size: j + v,
+                })
+            } else {
+                Next::Broken(5)
+            }
+        }
+    }
+}
+
+// The same for what opens an entry there.
+fn on_head(x: Headed, format: Format, s: &[u8]) -> Next
+    ensures { λ r. ⌜ r ≡ onHead x (shape format) (now (s .entry)) ⌝ }
+{
     match x {
         Headed::Wrong(k) => Next::Broken(k),
         Headed::Ends => Next::Ended,
-        Headed::Opens(h) => {
-            let l = length_of(format, s, h);
-            match l {
-                Length::Fails(k) => Next::Broken(k),
-                Length::Reads(v, j) => {
-                    if v <= s.len() - j {
-                        Next::Framed(Frame {
-                            code: h.code,
-                            key: h.key,
-                            klen: h.klen,
-                            at: h.at,
-                            val: j,
-                            vlen: v,
-                            size: j + v,
-                        })
-                    } else {
-                        Next::Broken(5)
-                    }
-                }
-            }
-        }
+        Headed::Opens(h) => on_length(length_of(format, s, h), h, s),
+    }
+}
+
+// The frame at the front of s. `shut`: the entry before was one that none may follow.
+// Each format has a call of its own, so that it is compiled by itself and what is the same in all its heads is known.
+fn frame_of(format: Format, shut: bool, s: &[u8]) -> Next
+    ensures { λ r. ⌜ r ≡ next (shape format) shut (now (s .entry)) ⌝ }
+{
+    match format {
+        Format::Fboss => on_head(fboss::fboss_head(s), Format::Fboss, s),
+        Format::Vpd => on_head(vpd::vpd_head(s), Format::Vpd, s),
+        Format::Tiny => on_head(tiny::tiny_head(shut, s), Format::Tiny, s),
     }
 }
 

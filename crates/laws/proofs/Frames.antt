@@ -1,25 +1,24 @@
 -- One frame of any format that meets the laws: what is read is what the grammar writes.
 -- Assumes nothing.
-use Prim.Native.Nat.{ℕ, zero, suc, _+_, _-_, _≤_, _<_}
+use Prim.Native.Nat.{ℕ, _+_, _-_, _≤_, _<_}
 use mathlib.Core.Path.{_≡_, refl, ap, sym, _∙_}
-use mathlib.Core.List.{List, [], _∷_, _++_, append-assoc, append-nil}
+use mathlib.Core.List.{List, [], _++_, append-assoc, append-nil}
 use mathlib.Core.Bool.{Bool, true, false}
 use native.Mathlib.Omega.{arith}
-use lib.ListN.{length, take, drop, length-append, length-take, length-drop, take-append-drop}
+use lib.ListN.{length, take, drop, length-append, length-take}
 use lib.Seq.{take-at, drop-at, take-append-add, length-take-le}
 use lib.Dec.{leb}
-use borrow.Author.Tests.{leb-true, le-leb, lt-leb}
+use borrow.Author.Tests.{leb-true, le-leb}
 use Rattle.layout.specs.declared.Head.{Head}
 use Rattle.layout.specs.declared.Headed.{Headed}
 use Rattle.layout.specs.declared.Headed.the-variants.{Opens, Ends, Wrong}
 use Rattle.layout.specs.declared.Length.{Length}
 use Rattle.layout.specs.declared.Length.the-variants.{Reads, Fails}
 use Rattle.layout.specs.declared.Frame.{Frame}
-use Rattle.layout.specs.declared.Next.{Next}
 use Rattle.layout.specs.declared.Next.the-variants.{Framed, Ended, Broken}
 use Rattle.layout.specs.Bytes.{if, part}
 use Rattle.layout.specs.Shape.{Shape, frameOf, onLength, onHead, next}
-use Rattle.layout.specs.Walk.{Raw, Content, content}
+use Rattle.layout.specs.Walk.{Raw, content}
 use Rattle.laws.specs.Grammar.{Grammar}
 use Rattle.laws.proofs.Format.{Laws, headFrom, Begins, Goes, KeyLast}
 
@@ -62,38 +61,12 @@ part-key front key t k =
     let whole : front ++ t ≡ k .before ++ (key ++ t) = ap (λ (x : List ℕ). x ++ t) (k .joined) ∙ append-assoc (k .before) key t in
     rw whole (part-between (k .before) key t (length front - length key) (omega (arith, length-append (k .before) key, ap length (k .joined))))
 
--- what stands at the front of s, by its head and the length of its value
-module _ (S : Shape) (b : Bool) (s : List ℕ) where
-  pub next-wrong : (k : ℕ) → S .head b s ≡ Wrong k → next S b s ≡ Broken k
-  unfolding next
-  next-wrong k e = rw e
-
-  pub next-ends : S .head b s ≡ Ends → next S b s ≡ Ended
-  unfolding next
-  next-ends e = rw e
-
-  pub next-fails : (h : Head) (k : ℕ) → S .head b s ≡ Opens h → S .vlen h s ≡ Fails k → next S b s ≡ Broken k
-  unfolding next
-  next-fails h k e l = rw (e, l)
-
-  pub next-short : (h : Head) (v j : ℕ) → S .head b s ≡ Opens h → S .vlen h s ≡ Reads v j → length s < j + v → next S b s ≡ Broken 5
-  unfolding next
-  next-short h v j e l lt = rw (e, l, lt-leb (j + v) (length s) lt)
-
-  pub next-framed : (h : Head) (v j : ℕ) → S .head b s ≡ Opens h → S .vlen h s ≡ Reads v j → j + v ≤ length s → next S b s ≡ Framed (frameOf h v j)
-  unfolding next
-  next-framed h v j e l le = rw (e, l, le-leb (j + v) (length s) le)
+-- where no entry opens, none is there
+pub next-ends : (S : Shape) (b : Bool) (s : List ℕ) → S .head b s ≡ Ends → next S b s ≡ Ended
+unfolding next
+next-ends S b s e = rw e
 
 module _ {S : Shape} {G : Grammar} (L : Laws S G) where
-  -- a length that is read ends inside the bytes
-  pub length-in : (b : Bool) (s : List ℕ) (h : Head) (v j : ℕ) → S .head b s ≡ Opens h → S .vlen h s ≡ Reads v j → j ≤ length s
-  length-in b s h v j e l =
-      let x = L .head-sound b s h e in
-      let at : h .at ≡ length (x .front) = ap (λ (y : Head). y .at) (x .says) in
-      let fits : h .at ≤ length s = rw (x .joined) (omega (arith, length-append (x .front) (x .rest))) in
-      let g = L .vlen-sound s h v j fits l in
-      omega (arith, g .ends, length-drop (h .at) s, ap length (g .joined), length-append (g .lens) (g .rest))
-
   -- an entry of the grammar is read as its frame, whatever follows
   pub raw-reads : (r : Raw) (t : List ℕ) → IsRaw G r → next S false (r .bytes ++ t) ≡ Framed (r .frame)
   unfolding next
