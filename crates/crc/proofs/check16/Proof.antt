@@ -2,14 +2,13 @@
 -- its 256 entries, is computed once, before the first turn, and both loops carry it; that of a table for a byte ahead is computed where its entries are read.
 -- Assumes nothing.
 use mathlib.Core.Path.{refl, sym, ap₂, _∙_}
-use Prim.Native.Nat.{_+_, _-_}
+use Prim.Native.Nat.{_-_}
 use borrow.Author.Needs.{needs}
-use denote.Ref.{now}
 use lib.Bits.{bitXor}
-use lib.ListN.{length, getD}
+use lib.ListN.{length}
 use Rattle.crc.specs.Crc.{singleBit, byteIn, remainder, ahead, polynomial16, check16Of}
 use Rattle.crc.specs.Table.{rows}
-use Rattle.crc.proofs.ByTable.{four-by-table}
+use Rattle.crc.proofs.ByTable.{four-by-table16}
 use Rattle.crc.proofs.Table.{Made}
 use Rattle.crc.proofs.Loop.{Running, turn, four-turns, done}
 use Rattle.crc.proofs.check16.Statement.{statement}
@@ -72,10 +71,8 @@ unfolding rows ahead byteIn remainder singleBit
 loop-again c =
     let at = c .before .before .before .before .before .before .before .before .before .before .before .loop in
     let front = c .before .before .before .before .before .mixed16 .ensures (ahead 16 polynomial16 3) (ahead 16 polynomial16 2) refl refl in
-    let back = c .mixed162 .ensures (ahead 16 polynomial16 1) (remainder 16 polynomial16) refl (at .inv .1) in
-    let bs = now (c .before .before .before .before .before .before .before .before .before .before .before .before .before .args .bytes) in (
-      four-turns 16 polynomial16 _ _ _ _ (at .inv .0) _ (search needs)
-          (ap₂ bitXor back front ∙ sym (four-by-table polynomial16 (at .r) (getD bs (at .i) 0) (getD bs (at .i + 1) 0) (getD bs (at .i + 2) 0) (getD bs (at .i + 3) 0))),
+    let back = c .mixed162 .ensures (ahead 16 polynomial16 1) (remainder 16 polynomial16) refl (at .inv .1) in (
+      four-turns 16 polynomial16 _ _ _ _ (at .inv .0) _ (search needs) (ap₂ bitXor back front ∙ sym (four-by-table16 polynomial16 _ _ _ _ _)),
       at .inv .1,
     )
 
