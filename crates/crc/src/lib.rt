@@ -9,9 +9,9 @@ mod ahead16;
 mod remainders16;
 mod remainders8;
 
-use ahead16::AHEAD1;
-use ahead16::AHEAD2;
-use ahead16::AHEAD3;
+use ahead16::AHEAD16_1;
+use ahead16::AHEAD16_2;
+use ahead16::AHEAD16_3;
 use remainders8::REMAINDERS8;
 use remainders16::REMAINDERS16;
 
@@ -47,15 +47,15 @@ pub fn check16(bytes: &[u8]) -> u16
     ensures { λ r. ⌜ r ≡ check16Of (now (bytes .entry)) ⌝ }
 {
     // Locals, lent to each turn: a constant that is read in the loop is copied in each turn.
-    let third = AHEAD3;
-    let second = AHEAD2;
-    let first = AHEAD1;
+    let third = AHEAD16_3;
+    let second = AHEAD16_2;
+    let first = AHEAD16_1;
     let remainders = REMAINDERS16;
     let mut r: u16 = 0x1D0F;
     let mut i = 0;
     while i + 3 < bytes.len() {
-        let front = mixed16(&third, &second, r, bytes[i], bytes[i + 1]);
-        r = mixed16(&first, &remainders, 0, bytes[i + 2], bytes[i + 3]) ^ front;
+        let rest = mixed16(&first, &remainders, 0, bytes[i + 2], bytes[i + 3]);
+        r = rest ^ mixed16(&third, &second, r, bytes[i], bytes[i + 1]);
         i += 4;
     }
     while i < bytes.len() {
