@@ -82,12 +82,12 @@ fn byte_in8(remainders: &[u8; 256], r: u8, b: u8) -> u8
     entry8(remainders, r ^ b)
 }
 
-// The 8-bit check (01, Tiny version 2).
-pub fn check8(bytes: &[u8]) -> u8
-    ensures { λ r. ⌜ r ≡ check8Of (now (bytes .entry)) ⌝ }
+// The 8-bit check from a start (01, Tiny version 2, whose start is 0).
+pub fn check8(start: u8, bytes: &[u8]) -> u8
+    ensures { λ r. ⌜ r ≡ check8Of start (now (bytes .entry)) ⌝ }
 {
     let remainders = REMAINDERS8;
-    let mut r: u8 = 0;
+    let mut r = start;
     let mut i = 0;
     while i < bytes.len() {
         r = byte_in8(&remainders, r, bytes[i]);

@@ -11,10 +11,10 @@ use Rattle.crc.proofs.check8.Statement.{statement}
 use Rattle.crc.proofs.check8.Tie as tie
 
 abbrev Inv-loop : tie.InvT-loop
-Inv-loop bytes remainders r₀ i₀ r i = Running 8 polynomial8 (check8Of bytes) bytes r i
+Inv-loop start bytes remainders r₀ i₀ r i = Running 8 polynomial8 (check8Of start bytes) bytes r i
 
 abbrev μ-loop : tie.MeasureT-loop
-μ-loop bytes remainders r₀ i₀ r i = length bytes - i
+μ-loop start bytes remainders r₀ i₀ r i = length bytes - i
 
 loop-holds : tie.Need-loop-holds Inv-loop μ-loop
 unfolding check8Of
