@@ -92,6 +92,14 @@ alone : (w p b : ℕ) → 8 ≤ w → checkOf w p 0 (b ∷ []) ≡ remainder w p
 unfolding checkOf
 alone w p b h = rw (zero-mod, zero-div) at (by-table w p 0 b h)
 
+-- Four bytes taken into eight bits, by an entry for each of them: no bit stays after the first.
+pub four-by-table8 : (p r b c d e : ℕ) →
+    checkOf 8 p r (b ∷ c ∷ d ∷ e ∷ [])
+    ≡ bitXor (bitXor (bitXor (ahead 8 p 2 c) (ahead 8 p 1 d)) (remainder 8 p e)) (ahead 8 p 3 (bitXor r b))
+four-by-table8 p r b c d e =
+    let h : 8 ≤ 8 = lit≤ tt in
+    rw (peel 8 p r b, mul-mod-left, div-one, peel 8 p 0 c, peel 8 p 0 d, alone 8, xor-comm (ahead 8 p 3 (bitXor r b)), xor-assoc (ahead 8 p 2 c) (ahead 8 p 1 d))
+
 -- Four bytes taken into sixteen bits, by an entry for each of them: no bit stays after the second.
 pub four-by-table16 : (p r b c d e : ℕ) →
     checkOf 16 p r (b ∷ c ∷ d ∷ e ∷ [])
