@@ -1,14 +1,16 @@
--- The one fact about checks, over any width of at least eight bits: a byte is taken in by a shift and one table entry.
+-- The one fact about checks, over any width of at least eight bits: a byte is taken in by a shift and one table entry, and the bytes after it apart from that entry.
 -- Assumes nothing.
 use mathlib.Core.Path.{_≡_, refl, sym, ap, ap₂, _∙_}
+use mathlib.Core.List.{List, [], _∷_}
 use Prim.Native.Nat.{ℕ, zero, suc, _+_, _-_, _*_, _/_, _%_, _^_, _≤_, _<_}
-use native.Mathlib.Nat.{mod-lt, mul-mod-left, add-zero, zero-mul, mul-assoc, mul-comm, pow-suc, mul-le-mul-left, mul-one, sub-add-cancel}
+use native.Mathlib.Nat.{mod-lt, mul-mod-left, add-zero, zero-mul, zero-mod, zero-div, mul-assoc, mul-comm, pow-suc, mul-le-mul-left, mul-one, div-one, sub-add-cancel}
 use native.Mathlib.Omega.{arith}
 use lib.Dec.{lit≤}
 use lib.Pow.{pow-pos, split, shl-lt, shl-shr, mod-pow-add}
+use lib.ListN.{length}
 use lib.Bits.{bitXor, xor-block, xor-shifted, xor-comm, xor-zero-r}
-use Rattle.crc.specs.Crc.{times, singleBit, byteIn, remainder, ahead}
-use Rattle.crc.proofs.Xor.{Linear, xor-swap}
+use Rattle.crc.specs.Crc.{times, singleBit, byteIn, remainder, ahead, checkOf}
+use Rattle.crc.proofs.Xor.{Linear, xor-assoc, xor-swap}
 use Rattle.crc.proofs.SingleBit.{single-bit-linear, only-up}
 
 -- A linear step taken n times is linear.
@@ -61,49 +63,49 @@ by-table w p r b h =
 
 -- Of eight bits none stay.
 pub by-table8 : (p r b : ℕ) → byteIn 8 p r b ≡ remainder 8 p (bitXor r b)
-unfolding byteIn remainder
-by-table8 p r b = ap (times (singleBit 8 p) 8) (ap (bitXor r) (mul-one b) ∙ sym (mul-one (bitXor r b)))
+by-table8 p r b = rw (mul-mod-left, div-one) at (by-table 8 p r b (lit≤ tt))
 
 -- A byte taken into a sum goes into one of its parts, and 0 into the other.
-byte-in-apart : (w p r s b : ℕ) → byteIn w p (bitXor r s) b ≡ bitXor (byteIn w p r b) (byteIn w p s 0)
+byte-in-apart : (w p r s b : ℕ) → byteIn w p (bitXor r s) b ≡ bitXor (byteIn w p r 0) (byteIn w p s b)
 unfolding byteIn
 byte-in-apart w p r s b =
-    let x : ℕ = b * 2 ^ (w - 8) in
-    let none : ℕ = 0 * 2 ^ (w - 8) in
-    ap (times (singleBit w p) 8)
-    (ap (bitXor (bitXor r s)) (sym (xor-zero-r x)) ∙ xor-swap r s x 0 ∙ ap (λ (y : ℕ). bitXor (bitXor r x) (bitXor s y)) (sym (zero-mul (2 ^ (w - 8)))))
-    ∙ times-linear (singleBit w p) (single-bit-linear w p) 8 (bitXor r x) (bitXor s none)
+    ap (times (singleBit w p) 8) (rw zero-mul (xor-swap r s 0 (b * 2 ^ (w - 8)))) ∙ times-linear (singleBit w p) (single-bit-linear w p) 8 _ _
 
--- Two bytes taken in, by an entry for each of them.
-two-by-table : (p r b c : ℕ) → byteIn 16 p (byteIn 16 p r b) c ≡ bitXor (ahead 16 p 1 (bitXor (r / 2 ^ 8) b)) (remainder 16 p (bitXor (r % 2 ^ 8) c))
-unfolding ahead
-two-by-table p r b c =
-    let moved : ℕ = r * 2 ^ 8 % 2 ^ 16 in
-    let first : ℕ = remainder 16 p (bitXor (r / 2 ^ 8) b) in
-    let top : moved / 2 ^ 8 ≡ r % 2 ^ 8 = ap (λ (x : ℕ). x / 2 ^ 8) (stay r 8) ∙ shl-shr (r % 2 ^ 8) 8 in
-    let none : moved * 2 ^ 8 % 2 ^ 16 ≡ 0 =
-    stay moved 8 ∙ ap (λ (x : ℕ). x % 2 ^ 8 * 2 ^ 8) (stay r 8) ∙ ap (λ (x : ℕ). x * 2 ^ 8) (mul-mod-left (r % 2 ^ 8) (2 ^ 8)) in
-    ap (λ (x : ℕ). byteIn 16 p x c) (by-table 16 p r b (lit≤ tt))
-    ∙ byte-in-apart 16 p moved first c
-    ∙ ap (λ (x : ℕ). bitXor x (byteIn 16 p first 0))
-    (by-table 16 p moved c (lit≤ tt) ∙ ap₂ (λ (x y : ℕ). bitXor x (remainder 16 p (bitXor y c))) none top)
-    ∙ xor-comm (remainder 16 p (bitXor (r % 2 ^ 8) c)) (byteIn 16 p first 0)
+-- Bytes taken into a sum go into one of its parts, and as many bytes 0 into the other.
+apart : (w p s t : ℕ) (bs : List ℕ) → checkOf w p (bitXor s t) bs ≡ bitXor (times (λ (r : ℕ). byteIn w p r 0) (length bs) s) (checkOf w p t bs)
+unfolding checkOf
+apart w p s t [] = refl
+apart w p s t (b ∷ bs) =
+    ap (λ (r : ℕ). checkOf w p r bs) (byte-in-apart w p s t b) ∙ apart w p (byteIn w p s 0) (byteIn w p t b) bs
 
--- Two bytes 0 taken into a sum go into each of its parts.
-two-apart : (w p r s : ℕ) → byteIn w p (byteIn w p (bitXor r s) 0) 0 ≡ bitXor (byteIn w p (byteIn w p r 0) 0) (byteIn w p (byteIn w p s 0) 0)
-two-apart w p r s =
-    ap (λ (x : ℕ). byteIn w p x 0) (byte-in-apart w p r s 0) ∙ byte-in-apart w p (byteIn w p r 0) (byteIn w p s 0) 0
+-- The first byte of a check is one entry, that for as many bytes as are after it, and these are taken into what stays of r.
+peel : (w p r b : ℕ) (bs : List ℕ) → 8 ≤ w →
+    checkOf w p r (b ∷ bs) ≡ bitXor (ahead w p (length bs) (bitXor (r / 2 ^ (w - 8)) b)) (checkOf w p (r * 2 ^ 8 % 2 ^ w) bs)
+unfolding checkOf ahead
+peel w p r b bs h =
+    let kept : ℕ = r * 2 ^ 8 % 2 ^ w in
+    let entry : ℕ = remainder w p (bitXor (r / 2 ^ (w - 8)) b) in
+    ap (λ (x : ℕ). checkOf w p x bs) (by-table w p r b h ∙ xor-comm kept entry) ∙ apart w p entry kept bs
 
--- Four bytes taken in, by an entry for each of them: of the last two, and of the first two with two bytes after them.
-pub four-by-table : (p r b c d e : ℕ) →
-    byteIn 16 p (byteIn 16 p (byteIn 16 p (byteIn 16 p r b) c) d) e
-    ≡ bitXor (bitXor (ahead 16 p 1 (bitXor (0 / 2 ^ 8) d)) (remainder 16 p (bitXor (0 % 2 ^ 8) e)))
-    (bitXor (ahead 16 p 3 (bitXor (r / 2 ^ 8) b)) (ahead 16 p 2 (bitXor (r % 2 ^ 8) c)))
-unfolding ahead
-four-by-table p r b c d e =
-    let s : ℕ = byteIn 16 p (byteIn 16 p r b) c in
-    ap (λ (x : ℕ). byteIn 16 p x e) (byte-in-apart 16 p 0 s d)
-    ∙ byte-in-apart 16 p (byteIn 16 p 0 d) (byteIn 16 p s 0) e
-    ∙ ap₂ bitXor (two-by-table p 0 d e)
-    (ap (λ (x : ℕ). byteIn 16 p (byteIn 16 p x 0) 0) (two-by-table p r b c)
-    ∙ two-apart 16 p (ahead 16 p 1 (bitXor (r / 2 ^ 8) b)) (remainder 16 p (bitXor (r % 2 ^ 8) c)))
+-- One byte taken into 0 is its entry.
+alone : (w p b : ℕ) → 8 ≤ w → checkOf w p 0 (b ∷ []) ≡ remainder w p b
+unfolding checkOf
+alone w p b h = rw (zero-mod, zero-div) at (by-table w p 0 b h)
+
+-- Four bytes taken into eight bits, by an entry for each of them: no bit stays after the first.
+pub four-by-table8 : (p r b c d e : ℕ) →
+    checkOf 8 p r (b ∷ c ∷ d ∷ e ∷ [])
+    ≡ bitXor (bitXor (bitXor (ahead 8 p 2 c) (ahead 8 p 1 d)) (remainder 8 p e)) (ahead 8 p 3 (bitXor r b))
+four-by-table8 p r b c d e =
+    let h : 8 ≤ 8 = lit≤ tt in
+    rw (peel 8 p r b, mul-mod-left, div-one, peel 8 p 0 c, peel 8 p 0 d, alone 8, xor-comm (ahead 8 p 3 (bitXor r b)), xor-assoc (ahead 8 p 2 c) (ahead 8 p 1 d))
+
+-- Four bytes taken into sixteen bits, by an entry for each of them: no bit stays after the second.
+pub four-by-table16 : (p r b c d e : ℕ) →
+    checkOf 16 p r (b ∷ c ∷ d ∷ e ∷ [])
+    ≡ bitXor (bitXor (ahead 16 p 1 d) (remainder 16 p e)) (bitXor (ahead 16 p 3 (bitXor (r / 2 ^ 8) b)) (ahead 16 p 2 (bitXor (r % 2 ^ 8) c)))
+four-by-table16 p r b c d e =
+    let h : 8 ≤ 16 = lit≤ tt in
+    let first : ℕ = ahead 16 p 3 (bitXor (r / 2 ^ 8) b) in
+    let second : ℕ = ahead 16 p 2 (bitXor (r % 2 ^ 8) c) in
+    rw (peel 16 p r b, stay r 8, peel 16 p (r % 2 ^ 8 * 2 ^ 8) c, shl-shr, mul-assoc, mul-mod-left, peel 16 p 0 d, alone 16, ← xor-assoc first second, xor-comm (bitXor first second))

@@ -15,14 +15,16 @@ pub record Case : Type 0 where
 abbrev pub digits : List ℕ
 digits = 0x31 ∷ 0x32 ∷ 0x33 ∷ 0x34 ∷ 0x35 ∷ 0x36 ∷ 0x37 ∷ 0x38 ∷ 0x39 ∷ []
 
--- The empty message, "A" and the digits by 16 bits, a Tiny header by 8, and the digits by 8.
+-- The empty message, "A" and the digits by 16 bits; a Tiny header and the digits by 8, from the starts 00h and FFh.
 abbrev pub cases : List Case
 cases =
     record { check = check16Of; bytes = []; gives = 0x1D0F }
     ∷ record { check = check16Of; bytes = 0x41 ∷ []; gives = 0x9479 }
     ∷ record { check = check16Of; bytes = digits; gives = 0xE5CC }
-    ∷ record { check = check8Of; bytes = 0x56 ∷ 0x02 ∷ 0x04 ∷ []; gives = 0x6F }
-    ∷ record { check = check8Of; bytes = digits; gives = 0xF4 }
+    ∷ record { check = check8Of 0; bytes = 0x56 ∷ 0x02 ∷ 0x04 ∷ []; gives = 0x6F }
+    ∷ record { check = check8Of 0; bytes = digits; gives = 0xF4 }
+    ∷ record { check = check8Of 0xFF; bytes = 0x56 ∷ 0x02 ∷ 0x04 ∷ []; gives = 0x44 }
+    ∷ record { check = check8Of 0xFF; bytes = digits; gives = 0xFB }
     ∷ []
 
 -- Each case's check gives what the case says.

@@ -1,7 +1,7 @@
 -- A loop that takes in a slice's bytes: its invariant, a turn of one byte or of four, and the end.
 -- Assumes nothing.
 use mathlib.Core.Path.{_≡_, refl, sym, ap, _∙_}
-use mathlib.Core.List.{List}
+use mathlib.Core.List.{List, [], _∷_}
 use Prim.Native.Nat.{ℕ, _+_, _≤_, _<_}
 use native.Mathlib.Numerals.{add-one}
 use native.Mathlib.Omega.{arith}
@@ -29,7 +29,8 @@ module _ (w p whole : ℕ) (bs : List ℕ) (r i : ℕ) (inv : Running w p whole 
 
 -- Four more bytes taken in.
 pub four-turns : (w p whole : ℕ) (bs : List ℕ) (r i : ℕ) → Running w p whole bs r i → (s : ℕ) → i + 3 < length bs →
-    s ≡ byteIn w p (byteIn w p (byteIn w p (byteIn w p r (getD bs i 0)) (getD bs (i + 1) 0)) (getD bs (i + 2) 0)) (getD bs (i + 3) 0) → Running w p whole bs s (i + 4)
+    s ≡ checkOf w p r (getD bs i 0 ∷ getD bs (i + 1) 0 ∷ getD bs (i + 2) 0 ∷ getD bs (i + 3) 0 ∷ []) → Running w p whole bs s (i + 4)
+unfolding checkOf
 four-turns w p whole bs r i inv s lt e =
     let two : i + 1 + 1 ≡ i + 2 = omega arith in
     let three : i + 2 + 1 ≡ i + 3 = omega arith in

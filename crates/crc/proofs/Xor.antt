@@ -32,7 +32,7 @@ bit-assoc on on off = refl
 bit-assoc on on on = refl
 
 -- Numbers are, bit by bit.
-xor-assoc : (a b c : ℕ) → bitXor (bitXor a b) c ≡ bitXor a (bitXor b c)
+pub xor-assoc : (a b c : ℕ) → bitXor (bitXor a b) c ≡ bitXor a (bitXor b c)
 xor-assoc =
     bin-ind (λ (n : ℕ). (b c : ℕ) → bitXor (bitXor n b) c ≡ bitXor n (bitXor b c)) (λ b c. refl)
     (λ n ih b c.

@@ -42,6 +42,6 @@ check16Of bs = checkOf 16 polynomial16 0x1D0F bs
 abbrev pub polynomial8 : ℕ
 polynomial8 = 0x07
 
--- The 8-bit check, with start 0 (01, Tiny version 2).
-unfoldable pub check8Of : List ℕ → ℕ
-check8Of bs = checkOf 8 polynomial8 0 bs
+-- The 8-bit check from the start s (01, Tiny version 2, whose start is 0).
+unfoldable pub check8Of : ℕ → List ℕ → ℕ
+check8Of s bs = checkOf 8 polynomial8 s bs

@@ -1,5 +1,5 @@
 // Constant tables of the 16-bit check: the remainder of each top byte with one, two or three bytes 00h after it.
-pub const AHEAD1: [u16; 256] = [
+pub const AHEAD16_1: [u16; 256] = [
     0x0000,
     0x3331,
     0x6662,
@@ -258,7 +258,7 @@ pub const AHEAD1: [u16; 256] = [
     0x03FF,
 ];
 
-pub const AHEAD2: [u16; 256] = [
+pub const AHEAD16_2: [u16; 256] = [
     0x0000,
     0x3730,
     0x6E60,
@@ -517,7 +517,7 @@ pub const AHEAD2: [u16; 256] = [
     0xCF63,
 ];
 
-pub const AHEAD3: [u16; 256] = [
+pub const AHEAD16_3: [u16; 256] = [
     0x0000,
     0x76B4,
     0xED68,

@@ -6,12 +6,16 @@ ghost use lib.Bits.{bitXor};
 ghost use Rattle.crc.specs.Table.{rows};
 
 mod ahead16;
+mod ahead8;
 mod remainders16;
 mod remainders8;
 
-use ahead16::AHEAD1;
-use ahead16::AHEAD2;
-use ahead16::AHEAD3;
+use ahead8::AHEAD8_1;
+use ahead8::AHEAD8_2;
+use ahead8::AHEAD8_3;
+use ahead16::AHEAD16_1;
+use ahead16::AHEAD16_2;
+use ahead16::AHEAD16_3;
 use remainders8::REMAINDERS8;
 use remainders16::REMAINDERS16;
 
@@ -47,15 +51,15 @@ pub fn check16(bytes: &[u8]) -> u16
     ensures { λ r. ⌜ r ≡ check16Of (now (bytes .entry)) ⌝ }
 {
     // Locals, lent to each turn: a constant that is read in the loop is copied in each turn.
-    let third = AHEAD3;
-    let second = AHEAD2;
-    let first = AHEAD1;
+    let third = AHEAD16_3;
+    let second = AHEAD16_2;
+    let first = AHEAD16_1;
     let remainders = REMAINDERS16;
     let mut r: u16 = 0x1D0F;
     let mut i = 0;
     while i + 3 < bytes.len() {
-        let front = mixed16(&third, &second, r, bytes[i], bytes[i + 1]);
-        r = mixed16(&first, &remainders, 0, bytes[i + 2], bytes[i + 3]) ^ front;
+        let rest = mixed16(&first, &remainders, 0, bytes[i + 2], bytes[i + 3]);
+        r = rest ^ mixed16(&third, &second, r, bytes[i], bytes[i + 1]);
         i += 4;
     }
     while i < bytes.len() {
@@ -82,13 +86,24 @@ fn byte_in8(remainders: &[u8; 256], r: u8, b: u8) -> u8
     entry8(remainders, r ^ b)
 }
 
-// The 8-bit check (01, Tiny version 2).
-pub fn check8(bytes: &[u8]) -> u8
-    ensures { λ r. ⌜ r ≡ check8Of (now (bytes .entry)) ⌝ }
+// The 8-bit check from a start (01, Tiny version 2, whose start is 0), by four bytes at once as check16: the one look that waits for the remainder comes last.
+pub fn check8(start: u8, bytes: &[u8]) -> u8
+    ensures { λ r. ⌜ r ≡ check8Of start (now (bytes .entry)) ⌝ }
 {
+    // Locals, lent to each turn, as those of check16.
+    let third = AHEAD8_3;
+    let second = AHEAD8_2;
+    let first = AHEAD8_1;
     let remainders = REMAINDERS8;
-    let mut r: u8 = 0;
+    let mut r = start;
     let mut i = 0;
+    while i + 3 < bytes.len() {
+        let rest = entry8(&second, bytes[i + 1])
+            ^ entry8(&first, bytes[i + 2])
+            ^ entry8(&remainders, bytes[i + 3]);
+        r = rest ^ entry8(&third, r ^ bytes[i]);
+        i += 4;
+    }
     while i < bytes.len() {
         r = byte_in8(&remainders, r, bytes[i]);
         i += 1;

@@ -278,7 +278,7 @@ unfolding check16Of check8Of checkOf byteIn singleBit all oneOf sameBytes part h
     fields fieldsIn writerRule fieldFault judgeFields entryBytes entriesBytes imageOf put writeAs writeImage
     revalued editedBytes editRule mayEdit editEntry
 given (check16 s answer) = number (check16Of s)
-given (check8 s answer) = number (check8Of s)
+given (check8 s answer) = number (check8Of 0 s)
 given (lengths s answer) = length-read (groups 4 0 0 s)
 given (shortests n answer) = bytes (shortest n)
 given (checks f e image answer) = checked (checkImage f e image)

@@ -315,7 +315,7 @@ fn finish_tiny(out: &mut [u8], n: usize)
     let header = [0x56, 0x02, (n + 4) as u8];
     copy_at(out, 0, &header);
     let at = n + 3;
-    let end = [crc::check8(&out[..at])];
+    let end = [crc::check8(0, &out[..at])];
     put_end(out, at, &end);
 }
 

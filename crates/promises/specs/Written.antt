@@ -21,7 +21,7 @@ pub data Written : Format → List ℕ → List ℕ → Type 0 where
   vpd : (entries : List ℕ) → Written Vpd entries (entries ++ (0x00 ∷ []))
   -- the total length counts header, entries and check byte
   tiny : (entries : List ℕ) →
-      Written Tiny entries (0x56 ∷ 0x02 ∷ (length entries + 4) ∷ (entries ++ (check8Of (0x56 ∷ 0x02 ∷ (length entries + 4) ∷ entries) ∷ [])))
+      Written Tiny entries (0x56 ∷ 0x02 ∷ (length entries + 4) ∷ (entries ++ (check8Of 0 (0x56 ∷ 0x02 ∷ (length entries + 4) ∷ entries) ∷ [])))
 
 -- these bytes say a value's length in an entry of this code, and no bytes say it shorter
 pub record ShortLength (format : Format) (code : ℕ) (lens : List ℕ) (n : ℕ) : Type 0 where

@@ -178,5 +178,5 @@ pub fn tiny_sealed(image: &[u8], p: usize) -> bool
     if image.len() <= p {
         return false;
     }
-    image[p] == crc::check8(&image[..p])
+    image[p] == crc::check8(0, &image[..p])
 }

@@ -2,14 +2,13 @@
 -- its 256 entries, is computed once, before the first turn, and both loops carry it; that of a table for a byte ahead is computed where its entries are read.
 -- Assumes nothing.
 use mathlib.Core.Path.{refl, sym, ap₂, _∙_}
-use Prim.Native.Nat.{_+_, _-_}
+use Prim.Native.Nat.{_-_}
 use borrow.Author.Needs.{needs}
-use denote.Ref.{now}
 use lib.Bits.{bitXor}
-use lib.ListN.{length, getD}
+use lib.ListN.{length}
 use Rattle.crc.specs.Crc.{singleBit, byteIn, remainder, ahead, polynomial16, check16Of}
 use Rattle.crc.specs.Table.{rows}
-use Rattle.crc.proofs.ByTable.{four-by-table}
+use Rattle.crc.proofs.ByTable.{four-by-table16}
 use Rattle.crc.proofs.Table.{Made}
 use Rattle.crc.proofs.Loop.{Running, turn, four-turns, done}
 use Rattle.crc.proofs.check16.Statement.{statement}
@@ -34,20 +33,20 @@ loop-holds c = (search needs, refl)
 add-loop : tie.Need-add-loop Inv-loop μ-loop Inv-loop2 μ-loop2
 add-loop c = search needs
 
+add-mixed16 : tie.Need-add-mixed16 Inv-loop μ-loop Inv-loop2 μ-loop2
+add-mixed16 c = search needs
+
 shared-slice-read-mixed16 : tie.Need-shared-slice-read-mixed16 Inv-loop μ-loop Inv-loop2 μ-loop2
 shared-slice-read-mixed16 c = search needs
 
-add-mixed16 : tie.Need-add-mixed16 Inv-loop μ-loop Inv-loop2 μ-loop2
-add-mixed16 c = search needs
+add-mixed16-2 : tie.Need-add-mixed16-2 Inv-loop μ-loop Inv-loop2 μ-loop2
+add-mixed16-2 c = search needs
 
 shared-slice-read-mixed16-2 : tie.Need-shared-slice-read-mixed16-2 Inv-loop μ-loop Inv-loop2 μ-loop2
 shared-slice-read-mixed16-2 c = search needs
 
 mixed16-requires : tie.Need-mixed16-requires Inv-loop μ-loop Inv-loop2 μ-loop2
 mixed16-requires c κs = search needs
-
-add-mixed16-2 : tie.Need-add-mixed16-2 Inv-loop μ-loop Inv-loop2 μ-loop2
-add-mixed16-2 c = search needs
 
 shared-slice-read-mixed16-3 : tie.Need-shared-slice-read-mixed16-3 Inv-loop μ-loop Inv-loop2 μ-loop2
 shared-slice-read-mixed16-3 c = search needs
@@ -71,11 +70,9 @@ loop-again : tie.Need-loop-again Inv-loop μ-loop Inv-loop2 μ-loop2
 unfolding rows ahead byteIn remainder singleBit
 loop-again c =
     let at = c .before .before .before .before .before .before .before .before .before .before .before .loop in
-    let front = c .before .before .before .before .before .mixed16 .ensures (ahead 16 polynomial16 3) (ahead 16 polynomial16 2) refl refl in
-    let back = c .mixed162 .ensures (ahead 16 polynomial16 1) (remainder 16 polynomial16) refl (at .inv .1) in
-    let bs = now (c .before .before .before .before .before .before .before .before .before .before .before .before .before .args .bytes) in (
-      four-turns 16 polynomial16 _ _ _ _ (at .inv .0) _ (search needs)
-          (ap₂ bitXor back front ∙ sym (four-by-table polynomial16 (at .r) (getD bs (at .i) 0) (getD bs (at .i + 1) 0) (getD bs (at .i + 2) 0) (getD bs (at .i + 3) 0))),
+    let rest = c .before .before .before .before .before .mixed16 .ensures (ahead 16 polynomial16 1) (remainder 16 polynomial16) refl (at .inv .1) in
+    let front = c .mixed162 .ensures (ahead 16 polynomial16 3) (ahead 16 polynomial16 2) refl refl in (
+      four-turns 16 polynomial16 _ _ _ _ (at .inv .0) _ (search needs) (ap₂ bitXor rest front ∙ sym (four-by-table16 polynomial16 _ _ _ _ _)),
       at .inv .1,
     )
 
@@ -112,11 +109,11 @@ check16-spec =
     μ-loop2
     loop-holds
     add-loop
-    shared-slice-read-mixed16
     add-mixed16
+    shared-slice-read-mixed16
+    add-mixed16-2
     shared-slice-read-mixed16-2
     mixed16-requires
-    add-mixed16-2
     shared-slice-read-mixed16-3
     add-mixed16-3
     shared-slice-read-mixed16-4
