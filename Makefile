@@ -8,7 +8,7 @@
 # LIB=FILE takes a library that is already built, and builds none. LDLIBS has what it needs to link.
 
 # The first number is the newest edition that the library knows; the second counts the changes since that are the same in every edition.
-VERSION := 2.1
+VERSION := 2.2
 EDITIONS := 1 2
 NEWEST := 2
 
