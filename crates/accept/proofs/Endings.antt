@@ -27,13 +27,7 @@ ending-more n j r (done rs p) = ap (λ (k : ℕ). Ends k p j) (let q : n + suc (
 ending-more n j r (stop k p) = refl
 
 module _ (f : Format) (image : List ℕ) (end : ℕ) (shut : Bool) (p : ℕ) (x : Frame) (e : next (shape f) shut (part p (end - p) image) ≡ Framed x) where
-  -- a frame lies inside the room
-  pub frame-fits : p ≤ end → (0 < x .size) × (p + x .size ≤ end)
-  frame-fits le =
-      let i = framed-in (laws f) shut (part p (end - p) image) x e in
-      (i .0, omega (arith, part-most image p (end - p)))
-
-  -- its key and its value lie inside it
+  -- a frame's key and its value lie inside it
   pub frame-parts : (x .key + x .klen ≤ x .size) × (x .val + x .vlen ≤ x .size)
   frame-parts =
       let pl = raw-placed (laws f) (rawOf x (part p (end - p) image)) (framed-raw (laws f) shut (part p (end - p) image) x e) in

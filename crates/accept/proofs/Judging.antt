@@ -27,7 +27,8 @@ use Rattle.accept.specs.declared.Ending.{Ending}
 use Rattle.accept.specs.declared.Ending.the-variants.{Ends, Stops}
 use Rattle.accept.specs.declared.Judgement.the-variants.{Faulty}
 use Rattle.accept.specs.Passes.{Passed, walkEnding, judgement, endingOf}
-use Rattle.accept.proofs.Endings.{frame-fits, frame-says, walk-takes}
+use Rattle.frames.proofs.Spots.{framed-inside}
+use Rattle.accept.proofs.Endings.{frame-says, walk-takes}
 
 -- ---- the fault of one entry, by the tests that lead to it
 
@@ -152,7 +153,7 @@ module _ (f : Format) (e : ℕ) (image : List ℕ) (start end p n : ℕ) (shut :
         Along f e image start end (p + x .size) (n + 1) (shape f .last (x .code)) (set marks (x .code) 1) (withKey words (x .code) (part (p + x .key) (x .klen) image))
     along-on lt q =
         let r : Raw = rawOf x (part p (end - p) image) in
-        let i = frame-fits f image end shut p x nx (w .bound) in
+        let i = framed-inside f shut image p end x nx in
         let says : labelOf (content r) ≡ record { code = x .code; key = part (p + x .key) (x .klen) image } = ap labelOf (frame-says f image end shut p x nx) in
         let seen : labels (w .past ++ (r ∷ [])) ≡ labels (w .past) ++ (record { code = x .code; key = part (p + x .key) (x .klen) image } ∷ [])
         = labels-snoc (w .past) r ∙ ap (λ (a : Label). labels (w .past) ++ (a ∷ [])) says in
@@ -162,6 +163,6 @@ module _ (f : Format) (e : ℕ) (image : List ℕ) (start end p n : ℕ) (shut :
           isMarked = rw (codes-snoc (w .past) r) (one-marked (codesOf (w .past)) marks (x .code) lt (w .isMarked));
           isKnown = rw seen (one-known (labels (w .past)) words (record { code = x .code; key = part (p + x .key) (x .klen) image }) (w .isKnown));
           left = w .left ∙ ap (endingFrom f e (w .past) n p) (walk-takes f image end shut p x nx) ∙ from-fine f e (w .past) n p r rest (sym q);
-          bound = i .1;
+          bound = i .2;
           few = omega arith;
         }

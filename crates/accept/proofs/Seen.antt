@@ -13,10 +13,10 @@ use Rattle.layout.specs.declared.Frame.{Frame}
 use Rattle.layout.specs.declared.Next.{Next}
 use Rattle.layout.specs.declared.Next.the-variants.{Framed}
 use Rattle.layout.specs.Bytes.{if, sameBytes, part}
-use Rattle.layout.specs.Shape.{Label, next}
-use Rattle.layout.specs.Vpd.{vpd, vpdTwice}
+use Rattle.layout.specs.Shape.{next}
+use Rattle.layout.specs.Vpd.{vpd}
 use Rattle.layout.specs.Editions.{shape}
-use Rattle.layout.specs.Walk.{Raw, Content, content}
+use Rattle.layout.specs.Walk.{Raw, Content, content, labelOf}
 use Rattle.layout.specs.Read.{seenBefore, codesOf}
 use Rattle.laws.specs.Marked.{marked}
 use Rattle.laws.specs.Passes.{labels}
@@ -25,6 +25,7 @@ use Rattle.laws.proofs.Marks.{Marks}
 use Rattle.laws.proofs.Seen as seen
 use Rattle.laws.proofs.Seen.{labelCodes, AlwaysTwice}
 use Rattle.laws.proofs.Formats.{laws}
+use Rattle.keys.proofs.Seen.{keySeen, key-cons}
 use Rattle.accept.specs.Passes.{Passed}
 use Rattle.accept.proofs.Endings.{frame-says}
 
@@ -42,27 +43,17 @@ marked-seen f c key rs marks t lt m = seen.marked-seen f c key (labels rs) marks
 
 -- ---- by key
 
--- the label of a 01h with this key
-abbrev pub keyed : List ℕ → Label
-keyed key = record { code = 1; key = key }
-
 -- no pass goes back
 passed-on : (f : Format) (image : List ℕ) (end : ℕ) (b c : Bool) (q p : ℕ) (rs : List Raw) → Passed f image end b q rs c p → q ≤ p
 passed-on f image end b c q p [] h = omega (arith, h .1)
 passed-on f image end b c q p (r ∷ rs) h = omega (arith, passed-on f image end (shape f .last (r .frame .code)) c (q + r .frame .size) p rs (h .2))
-
--- one entry is looked at
-look-one : (r : Raw) (rs : List Raw) (key : List ℕ) →
-    seenBefore (shape Vpd) (labels (r ∷ rs)) (keyed key) ≡ if (eqb 1 (r .frame .code) && sameBytes key (content r .key)) (λ _. true) (λ _. seenBefore (shape Vpd) (labels rs) (keyed key))
-unfolding seenBefore vpd vpdTwice content
-look-one r rs key = refl
 
 module _ (image : List ℕ) (start end p : ℕ) (key : List ℕ) where
   -- the loop stands at q: what is looked for among the entries passed is looked for among those of them from q on
   pub record Left (past : List Raw) (shut : Bool) (q : ℕ) : Type 0 where
     pub todo : List Raw
     pub passed : Passed Vpd image end false q todo shut p
-    pub same : seenBefore (shape Vpd) (labels past) (keyed key) ≡ seenBefore (shape Vpd) (labels todo) (keyed key)
+    pub same : keySeen (labels past) key ≡ keySeen (labels todo) key
 
   abbrev pub Looking : ℕ → Type 0
   Looking q = (past : List Raw) (shut : Bool) → Passed Vpd image end false start past shut p → Left past shut q
@@ -72,12 +63,12 @@ module _ (image : List ℕ) (start end p : ℕ) (key : List ℕ) where
 
   module _ (q : ℕ) (w : Looking q) (past : List Raw) (shut : Bool) (h : Passed Vpd image end false start past shut p) where
     -- the place is reached
-    pub look-over : p ≤ q → false ≡ seenBefore (shape Vpd) (labels past) (keyed key)
+    pub look-over : p ≤ q → false ≡ keySeen (labels past) key
     unfolding seenBefore
     look-over le = go (w past shut h .todo) (w past shut h .passed) (w past shut h .same)
       where
-        go : (todo : List Raw) → Passed Vpd image end false q todo shut p → seenBefore (shape Vpd) (labels past) (keyed key) ≡ seenBefore (shape Vpd) (labels todo) (keyed key) →
-            false ≡ seenBefore (shape Vpd) (labels past) (keyed key)
+        go : (todo : List Raw) → Passed Vpd image end false q todo shut p → keySeen (labels past) key ≡ keySeen (labels todo) key →
+            false ≡ keySeen (labels past) key
         go [] g s = sym s
         go (r ∷ rs) g s =
             let i = framed-in (laws Vpd) false (part q (end - q) image) (r .frame) (g .0) in
@@ -112,14 +103,14 @@ module _ (image : List ℕ) (start end p : ℕ) (key : List ℕ) where
 
       -- it is looked at
       looked : (b : Bool) → eqb 1 (f .code) && sameBytes key (part (q + f .key) (f .klen) image) ≡ b → (o : Heads (w past shut h .todo)) →
-          seenBefore (shape Vpd) (labels past) (keyed key) ≡ if b (λ _. true) (λ _. seenBefore (shape Vpd) (labels (o .rest)) (keyed key))
+          keySeen (labels past) key ≡ if b (λ _. true) (λ _. keySeen (labels (o .rest)) key)
       looked b t o =
           let s : List ℕ = part q (end - q) image in
-          let test : eqb 1 (f .code) && sameBytes key (content (rawOf f s) .key) ≡ b = ap (λ (c : Content). eqb 1 (f .code) && sameBytes key (c .key)) (frame-says Vpd image end false q f e) ∙ t in
-          w past shut h .same ∙ ap (λ (l : List Raw). seenBefore (shape Vpd) (labels l) (keyed key)) (o .is) ∙ look-one (rawOf f s) (o .rest) key ∙ rw test
+          let test : eqb 1 (content (rawOf f s) .code) && sameBytes key (content (rawOf f s) .key) ≡ b = ap (λ (c : Content). eqb 1 (c .code) && sameBytes key (c .key)) (frame-says Vpd image end false q f e) ∙ t in
+          w past shut h .same ∙ ap (λ (l : List Raw). keySeen (labels l) key) (o .is) ∙ key-cons (labelOf (content (rawOf f s))) (labels (o .rest)) key ∙ rw test
 
       -- the key is there
-      pub look-hit : eqb 1 (f .code) && sameBytes key (part (q + f .key) (f .klen) image) ≡ true → true ≡ seenBefore (shape Vpd) (labels past) (keyed key)
+      pub look-hit : eqb 1 (f .code) && sameBytes key (part (q + f .key) (f .klen) image) ≡ true → true ≡ keySeen (labels past) key
       look-hit t = sym (looked true t (heads (w past shut h .todo) (w past shut h .passed)))
 
       -- it is not, and the loop goes on

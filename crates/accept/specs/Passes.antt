@@ -17,7 +17,7 @@ use Rattle.accept.specs.declared.Ending.the-variants.{Ends, Stops}
 use Rattle.accept.specs.declared.Judgement.{Judgement}
 use Rattle.accept.specs.declared.Judgement.the-variants.{Fine, Faulty}
 
--- a pass that stood at q has come to p over these entries. The tests say whether none may follow the entry before q, and before p
+-- a pass that stood at q has come to p over these entries. b tells whether none may follow the entry before q, and c the one before p
 abbrev pub Passed : Format → List ℕ → ℕ → Bool → ℕ → List Raw → Bool → ℕ → Type 0
 Passed f image end b q [] c p = (b ≡ c) × (q ≡ p)
 Passed f image end b q (r ∷ rs) c p =

@@ -85,7 +85,7 @@ fn walk_on(
 // Whether an entry before p has code 01h and this key.
 fn seen_key(image: &[u8], start: usize, end: usize, p: usize, key: &[u8]) -> bool
     requires { ⌜ p ≤ end ⌝ }
-    ensures { λ r. ⌜ ((past : List Raw) (shut : Bool) → Passed Format.Vpd (now (image .entry)) end false start past shut p → r ≡ seenBefore (shape Format.Vpd) (labels past) (record { code = 1; key = now (key .entry) })) ⌝ }
+    ensures { λ r. ⌜ ((past : List Raw) (shut : Bool) → Passed Format.Vpd (now (image .entry)) end false start past shut p → r ≡ keySeen (labels past) (now (key .entry))) ⌝ }
 {
     let mut q = start;
     while q < p {

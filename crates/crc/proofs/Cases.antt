@@ -1,4 +1,4 @@
--- The cases of 01, Both sides of each line, that are marked P for the checks, as one computed statement over a list.
+-- Cases of the checks, as one computed statement over a list: those of 01, Both sides of each line, that are marked P, and the 8-bit check of the digits and from the start FFh.
 -- Assumes nothing.
 use mathlib.Core.Path.{_≡_, refl}
 use mathlib.Core.List.{List, [], _∷_, map}

@@ -86,7 +86,7 @@ fn byte_in8(remainders: &[u8; 256], r: u8, b: u8) -> u8
     entry8(remainders, r ^ b)
 }
 
-// The 8-bit check from a start (01, Tiny version 2, whose start is 0), by four bytes at once as check16: the one look that waits for the remainder comes last.
+// The 8-bit check from a start (01, Tiny version 2, whose start is 0; 02, Tiny check from a table), four bytes at once as in check16: the one look that waits for the remainder comes last.
 pub fn check8(start: u8, bytes: &[u8]) -> u8
     ensures { λ r. ⌜ r ≡ check8Of start (now (bytes .entry)) ⌝ }
 {

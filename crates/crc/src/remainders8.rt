@@ -1,4 +1,4 @@
-// The constant table of the 8-bit check: the remainder of each byte alone (01, Tiny version 2).
+// The constant table of the 8-bit check: the remainder of each byte alone (01, Tiny version 2; 02, Tiny check from a table).
 pub const REMAINDERS8: [u8; 256] = [
     0x00,
     0x07,

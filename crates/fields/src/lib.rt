@@ -119,11 +119,7 @@ fn is_inside(x: Part, n: usize) -> bool
 {
     let place = x.place;
     let at = place.0;
-    let len = x.len;
-    if n < at {
-        return false;
-    }
-    len <= n - at
+    parts::is_inside(n, at, x.len)
 }
 
 // Whether the parts of a field lie inside the values; outside VPD the key is not looked at.

@@ -1,8 +1,7 @@
 // What a call's format and edition come to, and what stands at a place of an image, for any format.
 ghost use mathlib.Core.Path.{_≡_};
 ghost use mathlib.Core.Bool.{false};
-ghost use Prim.Native.Nat.{_+_, _-_, _*_, _<_};
-ghost use lib.Dec.{leb};
+ghost use Prim.Native.Nat.{_-_, _*_, _<_};
 ghost use Rattle.layout.specs.Bytes.{part};
 ghost use Rattle.layout.specs.Shape.{onLength, onHead, next};
 ghost use Rattle.layout.specs.Editions.{shape, withEdition, chosen, names, kind};
@@ -162,19 +161,6 @@ fn length_of(format: Format, s: &[u8], h: Head) -> Length
     }
 }
 
-// Whether n bytes from `at` on lie in a room of so many bytes.
-fn is_inside(room: usize, at: usize, n: usize) -> bool
-    ensures { λ r. ⌜ r ≡ leb (at + n) room ⌝ }
-{
-    if room < at {
-        return false;
-    }
-    if room - at < n {
-        return false;
-    }
-    true
-}
-
 // The frame at the front of s that has this head and this length.
 fn on_length(l: Length, h: Head, s: &[u8]) -> Next
     ensures { λ r. ⌜ r ≡ onLength l h (now (s .entry)) ⌝ }
@@ -182,7 +168,7 @@ fn on_length(l: Length, h: Head, s: &[u8]) -> Next
     match l {
         Length::Fails(k) => Next::Broken(k),
         Length::Reads(v, j) => {
-            if is_inside(s.len(), j, v) {
+            if parts::is_inside(s.len(), j, v) {
                 Next::Framed(Frame {
                     code: h.code,
                     key: h.key,
@@ -199,7 +185,7 @@ fn on_length(l: Length, h: Head, s: &[u8]) -> Next
     }
 }
 
-// The same for what opens an entry there.
+// The frame at the front of s, where x is what opens an entry there.
 fn on_head(x: Headed, format: Format, s: &[u8]) -> Next
     ensures { λ r. ⌜ r ≡ onHead x (shape format) (now (s .entry)) ⌝ }
 {
@@ -211,7 +197,7 @@ fn on_head(x: Headed, format: Format, s: &[u8]) -> Next
 }
 
 // The frame at the front of s. `shut`: the entry before was one that none may follow.
-// Each format has a call of its own, so that it is compiled by itself and what is the same in all its heads is known.
+// Each format has a call of its own, so that the compiler makes code for it alone and uses what is the same in all its heads.
 fn frame_of(format: Format, shut: bool, s: &[u8]) -> Next
     ensures { λ r. ⌜ r ≡ next (shape format) shut (now (s .entry)) ⌝ }
 {

@@ -43,6 +43,11 @@ seen-snoc S (x ∷ xs) a b = go (same S a x) (same S a b) (seen-snoc S xs a b)
     go false true h = h
     go false false h = h
 
+-- the first of those seen is looked at
+pub key-cons : (b : Label) (seen : List Label) (key : List ℕ) → keySeen (b ∷ seen) key ≡ if (eqb 1 (b .code) && sameBytes key (b .key)) (λ _. true) (λ _. keySeen seen key)
+unfolding seenBefore vpd vpdTwice
+key-cons b seen key = refl
+
 key-snoc : (seen : List Label) (b : Label) (key : List ℕ) → keySeen (seen ++ (b ∷ [])) key ≡ if (eqb 1 (b .code) && sameBytes key (b .key)) (λ _. true) (λ _. keySeen seen key)
 unfolding vpd vpdTwice
 key-snoc seen b key = seen-snoc (shape Vpd) seen (record { code = 1; key = key }) b

@@ -61,7 +61,7 @@ part-key front key t k =
     let whole : front ++ t ≡ k .before ++ (key ++ t) = ap (λ (x : List ℕ). x ++ t) (k .joined) ∙ append-assoc (k .before) key t in
     rw whole (part-between (k .before) key t (length front - length key) (omega (arith, length-append (k .before) key, ap length (k .joined))))
 
--- where no entry opens, none is there
+-- where the head says that the entries end, no frame stands
 pub next-ends : (S : Shape) (b : Bool) (s : List ℕ) → S .head b s ≡ Ends → next S b s ≡ Ended
 unfolding next
 next-ends S b s e = rw e

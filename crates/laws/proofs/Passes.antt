@@ -1,4 +1,4 @@
--- A pass over the entries of a walk that came to its end: where it stands, and how it goes on. The loops of the readers go by this.
+-- A pass over the entries of a walk that came to its end: where it stands, and how it goes on. The search for a string and the lists go by this.
 -- Assumes nothing.
 use Prim.Native.Nat.{ℕ, zero, suc, _+_, _-_, _≤_, _<_}
 use mathlib.Core.Path.{_≡_, refl, ap, ap₂, sym, _∙_}
@@ -40,7 +40,7 @@ pub part-most : (image : List ℕ) (p n : ℕ) → length (part p n image) ≤ n
 unfolding part
 part-most image p n = omega (arith, length-take n (drop p image))
 
--- a pass over entries stands at p: those that are to do
+-- a pass over entries stands at p, and `todo` are the entries from there on
 pub record Passing (S : Shape) (G : Grammar) (image : List ℕ) (end p : ℕ) (shut : Bool) : Type 0 where
   pub todo : List Raw
   pub rest : List ℕ
@@ -77,7 +77,6 @@ module _ {S : Shape} {G : Grammar} (L : Laws S G) (image : List ℕ) (end : ℕ)
     pub raw : Raw
     pub todo : List Raw
     pub heads : was .todo ≡ raw ∷ todo
-    pub isRaw : IsRaw G raw
     pub frame : raw .frame ≡ f
     pub isRawOf : raw ≡ rawOf f (part p (end - p) image)
     pub on : Passing S G image end (p + f .size) (S .last (f .code))
@@ -106,7 +105,6 @@ module _ {S : Shape} {G : Grammar} (L : Laws S G) (image : List ℕ) (end : ℕ)
         raw = r;
         todo = rs;
         heads = e;
-        isRaw = fs .1;
         frame = same;
         isRawOf = ap₂ (λ (x : List ℕ) (y : Frame). record { bytes = x; frame = y }) bytes same;
         on =

@@ -1,6 +1,7 @@
 // What the readers of all formats do with parts of bytes.
 ghost use mathlib.Core.Path.{_≡_};
 ghost use Prim.Native.Nat.{_+_, _-_, _^_, _≤_, _<_};
+ghost use lib.Dec.{leb};
 ghost use Rattle.layout.specs.Bytes.{sameBytes, part, highFirst};
 ghost use Rattle.layout.specs.Shape.{byteLength};
 use layout::Head;
@@ -11,6 +12,19 @@ fn wide(x: u8) -> usize
     ensures { λ r. ⌜ r ≡ x ⌝ }
 {
     x as usize
+}
+
+// Whether n bytes from `at` on lie in a room of so many bytes.
+pub fn is_inside(room: usize, at: usize, n: usize) -> bool
+    ensures { λ r. ⌜ r ≡ leb (at + n) room ⌝ }
+{
+    if room < at {
+        return false;
+    }
+    if room - at < n {
+        return false;
+    }
+    true
 }
 
 // A length of one byte, where the head says that it begins.

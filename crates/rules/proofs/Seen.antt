@@ -2,7 +2,7 @@
 -- Assumes nothing.
 use Prim.Native.Nat.{ℕ, suc, _+_, _≤_, _<_}
 use mathlib.Core.Path.{_≡_, refl, ap, _∙_}
-use mathlib.Core.List.{List, [], _∷_}
+use mathlib.Core.List.{List, []}
 use mathlib.Core.Bool.{Bool, true, false, _&&_}
 use native.Mathlib.Omega.{arith}
 use native.Mathlib.Numerals.{add-one}
@@ -12,10 +12,11 @@ use lib.Dec.{eqb}
 use Rattle.layout.specs.declared.Field.{Field}
 use Rattle.layout.specs.declared.Format.the-variants.{Vpd}
 use Rattle.layout.specs.Bytes.{if, sameBytes}
-use Rattle.layout.specs.Vpd.{vpd, vpdTwice}
 use Rattle.layout.specs.Editions.{shape}
 use Rattle.layout.specs.Read.{seenBefore}
-use Rattle.layout.specs.Write.{fieldAt, fieldKey}
+use Rattle.layout.specs.Walk.{labelOf}
+use Rattle.layout.specs.Write.{fieldAt, fieldKey, fieldContent}
+use Rattle.keys.proofs.Seen.{key-cons}
 use Rattle.rules.specs.Fields.{fieldLabels}
 
 -- a field of code 01h with this key is among these
@@ -25,10 +26,6 @@ keySeen values key xs = seenBefore (shape Vpd) (fieldLabels (shape Vpd) values x
 -- a field has code 01h and this key
 abbrev pub keyHas : List ℕ → List ℕ → Field → Bool
 keyHas values key x = eqb 1 (x .code) && sameBytes key (fieldKey (shape Vpd .keyed) x values)
-
-look-one : (values key : List ℕ) (x : Field) (xs : List Field) → keySeen values key (x ∷ xs) ≡ if (keyHas values key x) (λ _. true) (λ _. keySeen values key xs)
-unfolding seenBefore vpd vpdTwice
-look-one values key x xs = refl
 
 -- the loop over the first n fields stands at i: what it looks for is looked for among those from i on
 pub Looking : (values key : List ℕ) (xs : List Field) (n i : ℕ) → Type 0
@@ -43,7 +40,7 @@ module _ (values key : List ℕ) (xs : List Field) (n i : ℕ) (le : n ≤ lengt
   unfolding Looking
   looked lt =
       w ∙ ap (keySeen values key) (drop-cons (take n xs) i (fieldAt []) (rw (length-take-le n xs le) lt))
-      ∙ rw (getD-take n xs i (fieldAt []) lt) (look-one values key (getD xs i (fieldAt [])) (drop (suc i) (take n xs)))
+      ∙ rw (getD-take n xs i (fieldAt []) lt) (key-cons (labelOf (fieldContent (shape Vpd) values (getD xs i (fieldAt [])))) (fieldLabels (shape Vpd) values (drop (suc i) (take n xs))) key)
 
   -- the key is there
   pub look-hit : i < n → keyHas values key (getD xs i (fieldAt [])) ≡ true → keySeen values key (take n xs) ≡ true

@@ -13,7 +13,8 @@ use Rattle.layout.specs.Shape.{next}
 use Rattle.layout.specs.Editions.{shape}
 use Rattle.keys.specs.Filter.{withKey}
 use Rattle.keys.proofs.Seen.{kept-length}
-use Rattle.accept.proofs.Endings.{frame-fits, frame-parts, frame-code}
+use Rattle.frames.proofs.Spots.{framed-inside}
+use Rattle.accept.proofs.Endings.{frame-parts, frame-code}
 use Rattle.accept.proofs.Judging.{Along, along-first, along-ended, along-broken, along-judges, along-fault, along-on}
 use Rattle.accept.proofs.read_entries.Statement.{statement}
 use Rattle.accept.proofs.read_entries.Tie as tie
@@ -43,7 +44,7 @@ add-part-of c =
     let f = c .before .before .x .given .0 .0 in
     let image = now (a .image) in
     let e : next (shape (a .format)) (l .shut) (part (l .p) (a .end - l .p) image) ≡ Framed f = sym (c .before .before .before .before .next-frame .ensures) ∙ c .before .before .x .given .1 in
-    let i = frame-fits (a .format) image (a .end) (l .shut) (l .p) f e (l .inv .1 .bound) in
+    let i = framed-inside (a .format) (l .shut) image (l .p) (a .end) f e in
     let parts = frame-parts (a .format) image (a .end) (l .shut) (l .p) f e in
     omega (arith, c .before .before .before .before .before .before .before .before .fits)
 
@@ -70,7 +71,7 @@ add-part-of-2 c =
     let f = c .before .before .before .before .before .before .before .before .before .before .x .given .0 .0 in
     let image = now (a .image) in
     let e : next (shape (a .format)) (l .shut) (part (l .p) (a .end - l .p) image) ≡ Framed f = sym (c .before .before .before .before .before .before .before .before .before .before .before .before .next-frame .ensures) ∙ c .before .before .before .before .before .before .before .before .before .before .x .given .1 in
-    let i = frame-fits (a .format) image (a .end) (l .shut) (l .p) f e (l .inv .1 .bound) in
+    let i = framed-inside (a .format) (l .shut) image (l .p) (a .end) f e in
     let parts = frame-parts (a .format) image (a .end) (l .shut) (l .p) f e in
     omega (arith, c .before .before .before .before .before .before .before .before .before .before .before .before .before .before .before .before .fits)
 
@@ -128,7 +129,7 @@ add-p c =
     let f = c .before .before .before .before .before .before .before .before .before .before .before .before .before .before .before .x .given .0 .0 in
     let image = now (a .image) in
     let e : next (shape (a .format)) (l .shut) (part (l .p) (a .end - l .p) image) ≡ Framed f = sym (c .before .before .before .before .before .before .before .before .before .before .before .before .before .before .before .before .before .next-frame .ensures) ∙ c .before .before .before .before .before .before .before .before .before .before .before .before .before .before .before .x .given .1 in
-    let i = frame-fits (a .format) image (a .end) (l .shut) (l .p) f e (l .inv .1 .bound) in
+    let i = framed-inside (a .format) (l .shut) image (l .p) (a .end) f e in
     omega (arith, c .before .before .before .before .before .before .before .before .before .before .before .before .before .before .before .before .before .before .before .before .before .fits)
 
 add-n : tie.Need-add-n Inv-loop μ-loop
@@ -138,7 +139,7 @@ add-n c =
     let f = c .before .before .before .before .before .before .before .before .before .before .before .before .before .before .before .x .given .0 .0 in
     let image = now (a .image) in
     let e : next (shape (a .format)) (l .shut) (part (l .p) (a .end - l .p) image) ≡ Framed f = sym (c .before .before .before .before .before .before .before .before .before .before .before .before .before .before .before .before .before .next-frame .ensures) ∙ c .before .before .before .before .before .before .before .before .before .before .before .before .before .before .before .x .given .1 in
-    let i = frame-fits (a .format) image (a .end) (l .shut) (l .p) f e (l .inv .1 .bound) in
+    let i = framed-inside (a .format) (l .shut) image (l .p) (a .end) f e in
     omega (arith, l .inv .1 .few, c .before .before .before .before .before .before .before .before .before .before .before .before .before .before .before .before .before .before .before .before .before .fits)
 
 loop-less : tie.Need-loop-less Inv-loop μ-loop
@@ -148,7 +149,7 @@ loop-less c =
     let f = c .before .before .before .before .before .before .before .before .before .before .before .before .before .before .before .x .given .0 .0 in
     let image = now (a .image) in
     let e : next (shape (a .format)) (l .shut) (part (l .p) (a .end - l .p) image) ≡ Framed f = sym (c .before .before .before .before .before .before .before .before .before .before .before .before .before .before .before .before .before .next-frame .ensures) ∙ c .before .before .before .before .before .before .before .before .before .before .before .before .before .before .before .x .given .1 in
-    let i = frame-fits (a .format) image (a .end) (l .shut) (l .p) f e (l .inv .1 .bound) in
+    let i = framed-inside (a .format) (l .shut) image (l .p) (a .end) f e in
     omega arith
 
 loop-again : tie.Need-loop-again Inv-loop μ-loop

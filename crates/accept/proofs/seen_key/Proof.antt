@@ -12,7 +12,8 @@ use lib.Dec.{eqb}
 use Rattle.layout.specs.Bytes.{sameBytes, part}
 use Rattle.layout.specs.Shape.{next}
 use Rattle.layout.specs.Editions.{shape}
-use Rattle.accept.proofs.Endings.{frame-fits, frame-parts}
+use Rattle.frames.proofs.Spots.{framed-inside}
+use Rattle.accept.proofs.Endings.{frame-parts}
 use Rattle.accept.proofs.Seen.{Looking, look-first, look-framed, look-hit, look-on, look-over}
 use Rattle.accept.proofs.seen_key.Statement.{statement}
 use Rattle.accept.proofs.seen_key.Tie as tie
@@ -39,7 +40,7 @@ add-part-of c =
     let a = c .before .before .before .before .before .before .before .before .before .args in
     let f = c .before .before .x .given .0 .0 in
     let e : next (shape Vpd) false (part (c .before .before .before .before .before .before .loop .q) (a .end - c .before .before .before .before .before .before .loop .q) (now (a .image))) ≡ Framed f = sym (c .before .before .before .before .next-frame .ensures) ∙ c .before .before .x .given .1 in
-    let i = frame-fits Vpd (now (a .image)) (a .end) false (c .before .before .before .before .before .before .loop .q) f e (omega arith) in
+    let i = framed-inside Vpd false (now (a .image)) (c .before .before .before .before .before .before .loop .q) (a .end) f e in
     let parts = frame-parts Vpd (now (a .image)) (a .end) false (c .before .before .before .before .before .before .loop .q) f e in
     omega arith
 
@@ -63,7 +64,7 @@ add-q c =
     let a = c .before .before .before .before .before .before .before .before .before .before .before .before .before .before .args in
     let f = c .before .before .before .before .before .before .before .x .given .0 .0 in
     let e : next (shape Vpd) false (part (c .before .before .before .before .before .before .before .before .before .before .before .loop .q) (a .end - c .before .before .before .before .before .before .before .before .before .before .before .loop .q) (now (a .image))) ≡ Framed f = sym (c .before .before .before .before .before .before .before .before .before .next-frame .ensures) ∙ c .before .before .before .before .before .before .before .x .given .1 in
-    let i = frame-fits Vpd (now (a .image)) (a .end) false (c .before .before .before .before .before .before .before .before .before .before .before .loop .q) f e (omega arith) in
+    let i = framed-inside Vpd false (now (a .image)) (c .before .before .before .before .before .before .before .before .before .before .before .loop .q) (a .end) f e in
     omega (arith, c .before .before .before .before .before .before .before .before .before .before .before .before .before .before .fits)
 
 loop-less : tie.Need-loop-less Inv-loop μ-loop
@@ -71,7 +72,7 @@ loop-less c =
     let a = c .before .before .before .before .before .before .before .before .before .before .before .before .before .before .args in
     let f = c .before .before .before .before .before .before .before .x .given .0 .0 in
     let e : next (shape Vpd) false (part (c .before .before .before .before .before .before .before .before .before .before .before .loop .q) (a .end - c .before .before .before .before .before .before .before .before .before .before .before .loop .q) (now (a .image))) ≡ Framed f = sym (c .before .before .before .before .before .before .before .before .before .next-frame .ensures) ∙ c .before .before .before .before .before .before .before .x .given .1 in
-    let i = frame-fits Vpd (now (a .image)) (a .end) false (c .before .before .before .before .before .before .before .before .before .before .before .loop .q) f e (omega arith) in
+    let i = framed-inside Vpd false (now (a .image)) (c .before .before .before .before .before .before .before .before .before .before .before .loop .q) (a .end) f e in
     omega arith
 
 loop-again : tie.Need-loop-again Inv-loop μ-loop

@@ -1,4 +1,4 @@
--- `accept::take_room` meets its contract: the pass over frames and rules, and between the two the check.
+-- `accept::take_room` meets its contract: the pass over frames and rules, and the check, whose refusal comes after a broken frame's and before a broken rule's.
 -- Assumes nothing.
 use Prim.Native.Nat.{ℕ, _+_}
 use mathlib.Core.Path.{ap, sym, _∙_}

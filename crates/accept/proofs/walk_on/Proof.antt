@@ -13,7 +13,8 @@ use Rattle.layout.specs.Editions.{shape}
 use Rattle.layout.specs.Walk.{walk}
 use Rattle.laws.proofs.Walking.{walk-end, walk-bad}
 use Rattle.accept.specs.Passes.{walkEnding}
-use Rattle.accept.proofs.Endings.{frame-fits, ending-on}
+use Rattle.frames.proofs.Spots.{framed-inside}
+use Rattle.accept.proofs.Endings.{ending-on}
 use Rattle.accept.proofs.walk_on.Statement.{statement}
 use Rattle.accept.proofs.walk_on.Tie as tie
 
@@ -42,7 +43,7 @@ add-q c =
     let l = c .before .before .before .before .before .before .loop in
     let k = c .before .before .before .x .given .0 .0 in
     let e : next (shape (a .format)) (l .closed) (part (l .q) (a .end - l .q) (now (a .image))) ≡ Framed k = sym (c .before .before .before .before .before .next-frame .ensures) ∙ c .before .before .before .x .given .1 in
-    let i = frame-fits (a .format) (now (a .image)) (a .end) (l .closed) (l .q) k e (l .inv .0) in
+    let i = framed-inside (a .format) (l .closed) (now (a .image)) (l .q) (a .end) k e in
     omega arith
 
 add-count : tie.Need-add-count Inv-loop μ-loop
@@ -51,7 +52,7 @@ add-count c =
     let l = c .before .before .before .before .before .before .loop in
     let k = c .before .before .before .x .given .0 .0 in
     let e : next (shape (a .format)) (l .closed) (part (l .q) (a .end - l .q) (now (a .image))) ≡ Framed k = sym (c .before .before .before .before .before .next-frame .ensures) ∙ c .before .before .before .x .given .1 in
-    let i = frame-fits (a .format) (now (a .image)) (a .end) (l .closed) (l .q) k e (l .inv .0) in
+    let i = framed-inside (a .format) (l .closed) (now (a .image)) (l .q) (a .end) k e in
     omega arith
 
 loop-less : tie.Need-loop-less Inv-loop μ-loop
@@ -60,7 +61,7 @@ loop-less c =
     let l = c .before .before .before .before .before .before .loop in
     let k = c .before .before .before .x .given .0 .0 in
     let e : next (shape (a .format)) (l .closed) (part (l .q) (a .end - l .q) (now (a .image))) ≡ Framed k = sym (c .before .before .before .before .before .next-frame .ensures) ∙ c .before .before .before .x .given .1 in
-    let i = frame-fits (a .format) (now (a .image)) (a .end) (l .closed) (l .q) k e (l .inv .0) in
+    let i = framed-inside (a .format) (l .closed) (now (a .image)) (l .q) (a .end) k e in
     omega arith
 
 loop-again : tie.Need-loop-again Inv-loop μ-loop
@@ -69,8 +70,8 @@ loop-again c =
     let l = c .before .before .before .before .before .before .loop in
     let k = c .before .before .before .x .given .0 .0 in
     let e : next (shape (a .format)) (l .closed) (part (l .q) (a .end - l .q) (now (a .image))) ≡ Framed k = sym (c .before .before .before .before .before .next-frame .ensures) ∙ c .before .before .before .x .given .1 in
-    let i = frame-fits (a .format) (now (a .image)) (a .end) (l .closed) (l .q) k e (l .inv .0) in
-    (i .1, omega arith, l .inv .2 ∙ rw (c .before .is-last .ensures) (ending-on (a .format) (now (a .image)) (a .end) (l .closed) (l .q) k e (l .count) (a .judgement)))
+    let i = framed-inside (a .format) (l .closed) (now (a .image)) (l .q) (a .end) k e in
+    (i .2, omega arith, l .inv .2 ∙ rw (c .before .is-last .ensures) (ending-on (a .format) (now (a .image)) (a .end) (l .closed) (l .q) k e (l .count) (a .judgement)))
 
 enum-told : tie.Need-enum-told Inv-loop μ-loop
 enum-told c = search needs

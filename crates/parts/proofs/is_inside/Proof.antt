@@ -1,11 +1,11 @@
--- `frames::is_inside` meets its contract: two differences that no number is too small for stand for one sum.
+-- `parts::is_inside` meets its contract: the length is compared with what is left after the place, so that no sum wraps.
 -- Assumes nothing.
 use Prim.Native.Nat.{_+_}
 use mathlib.Core.Path.{sym}
 use native.Mathlib.Omega.{arith}
 use borrow.Author.Tests.{lt-leb, le-leb}
-use Rattle.frames.proofs.is_inside.Statement.{statement}
-use Rattle.frames.proofs.is_inside.Tie as tie
+use Rattle.parts.proofs.is_inside.Statement.{statement}
+use Rattle.parts.proofs.is_inside.Tie as tie
 
 returns : tie.Need-returns
 returns c = sym (lt-leb (c .before .args .at + c .before .args .n) (c .before .args .room) (omega arith))
