@@ -78,9 +78,9 @@ module _ (g : Format) (e : ℕ) (image : List ℕ) (start end : ℕ) where
     pub place : at ≡ length made * 64
     pub is : out ≡ over d 0 (recordsBytes made)
 
-  pub filling-starts : (d : List ℕ) → start ≤ end → IsDone (walked g image start end) → Filling d d start 0 false
-  filling-starts d le w =
-      let f = pass-first g image start end le w in
+  pub filling-starts : (d : List ℕ) → IsDone (walked g image start end) → Filling d d start 0 false
+  filling-starts d w =
+      let f = pass-first g image start end w in
       record {
         pass = f .pass;
         made = [];

@@ -7,7 +7,7 @@ use native.Mathlib.Nat.{zero-add}
 use native.Mathlib.Omega.{arith}
 use mathlib.Core.Bool.{Bool, true, false}
 use borrow.Author.Tests.{le-leb, lt-leb, leb-true}
-use lib.ListN.{length, take, drop}
+use lib.ListN.{length, drop}
 use lib.Dec.{leb}
 use Rattle.layout.specs.declared.Entry.{Entry}
 use Rattle.layout.specs.declared.Lookup.{Lookup}
@@ -16,8 +16,8 @@ use Rattle.layout.specs.declared.Refusal.{Refusal}
 use Rattle.layout.specs.Bytes.{if, partAt, refusal}
 use Rattle.layout.specs.Editions.{shape, chosen}
 use Rattle.layout.specs.Walk.{Raw}
-use Rattle.layout.specs.Read.{Read, refused, readImage}
-use Rattle.layout.specs.Calls.{Step, told, toldLookup, entriesOf, entryAt, moved, stepFrom}
+use Rattle.layout.specs.Read.{Read, readImage}
+use Rattle.layout.specs.Calls.{Step, told, entriesOf, entryAt, stepFrom}
 use Rattle.layout.specs.Write.{word}
 use Rattle.laws.specs.Passes.{walked, IsDone, rawsIn}
 use Rattle.laws.proofs.Records.{entries-count}
@@ -31,7 +31,7 @@ use Rattle.accept.proofs.Rooms.{took, not-took}
 use Rattle.records.specs.Packed.{packed}
 use Rattle.records.specs.Words.{wordsBytes, recordBytes, recordsBytes}
 use Rattle.records.proofs.Words.{length-words}
-use Rattle.records.specs.Exports.{Given, kept, recorded, entryCall, walkFormat, walkEdition, walkEntry, walkAt, Moved, unmoved, steppedTo, stepped, stepCall, recordedAll, recordedBy, listCall}
+use Rattle.records.specs.Exports.{kept, recorded, entryCall, walkFormat, walkEdition, walkEntry, walkAt, unmoved, steppedTo, stepCall, recordedAll, recordedBy, listCall}
 use Rattle.records.proofs.Words.{length-record, length-records}
 
 -- the packed answer does not show the entries that are given
@@ -145,7 +145,6 @@ module _ (f e : ℕ) (img m : List ℕ) where
     list-short lt = listed ∙ rw (lt-leb (length given) (length m / 64) (omega (arith, many)))
 
     pub record Fills : Type 0 where
-      pub bound : room .start ≤ room .end
       pub done : IsDone (walked (room .format) img (room .start) (room .end))
       pub room-enough : length raws * 64 ≤ length m
       pub is : listCall f e img m ≡ record { answer = packed (told (room .count) (partAt 0 0) []); memory = copied m 0 (recordsBytes given) }
@@ -155,7 +154,6 @@ module _ (f e : ℕ) (img m : List ℕ) where
         let t = took f e img room q in
         let enough : length raws * 64 ≤ length m = omega (arith, le, many, entries-count (shape (room .format)) e (room .start) raws) in
         record {
-          bound = t .bound;
           done = rw (t .walks) tt;
           room-enough = enough;
           is =

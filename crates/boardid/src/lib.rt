@@ -1,7 +1,6 @@
 // The calls from C. Each takes the edition of the caller's header; docs/C-INTERFACE.md has the layouts and the packed answer.
 ghost use mathlib.Core.Path.{_≡_};
-ghost use Prim.Native.Nat.{ℕ, _+_, _*_, _/_, _≤_, _<_};
-ghost use mathlib.Core.List.{[], _∷_};
+ghost use Prim.Native.Nat.{_+_, _*_, _/_, _≤_, _<_};
 ghost use lib.ListN.{length};
 ghost use Rattle.layout.specs.Editions.{shape};
 ghost use Rattle.layout.specs.Bytes.{refusal};
@@ -9,7 +8,7 @@ ghost use Rattle.layout.specs.Calls.{entriesOf, toldRefusal};
 ghost use Rattle.laws.specs.Passes.{walked, IsDone, rawsIn};
 ghost use Rattle.output.specs.Placing.{copied};
 ghost use Rattle.records.specs.Packed.{packed};
-ghost use Rattle.records.specs.Words.{wordsBytes, recordsBytes};
+ghost use Rattle.records.specs.Words.{recordsBytes};
 ghost use Rattle.records.specs.Exports.{checkCall, valueCall, stringCall, entryCall, walkFormat, walkEdition, walkEntry, stepCall, listCall, writeCall, editCall};
 use accept::Taken;
 use layout::Format;
@@ -131,7 +130,7 @@ pub extern "C" fn boardid_step(walk: &mut [u8], image: &[u8], out: &mut [u8]) ->
 
 // The records of all entries, from the first on. One pass over the image, from entry to entry.
 fn put_records(out: &mut [u8], format: Format, edition: u32, image: &[u8], start: usize, end: usize)
-    requires { ⌜ (start ≤ end) × IsDone (walked format (now image) start end) × (length (rawsIn (walked format (now image) start end)) * 64 ≤ length (now out)) ⌝ }
+    requires { ⌜ IsDone (walked format (now image) start end) × (length (rawsIn (walked format (now image) start end)) * 64 ≤ length (now out)) ⌝ }
     ensures { λ r. ⌜ now (out .exit) ≡ copied (now (out .entry)) 0 (recordsBytes (entriesOf (shape format) edition start (rawsIn (walked format (now (image .entry)) start end)))) ⌝ }
 {
     let mut p = start;

@@ -5,7 +5,7 @@ use mathlib.Core.Path.{_≡_, refl, ap, ap₂, sym, _∙_}
 use mathlib.Core.List.{List, [], _∷_, _++_, append-assoc}
 use mathlib.Core.Bool.{Bool, false}
 use native.Mathlib.Omega.{arith}
-use lib.ListN.{length, getD, take, drop, length-append, length-take}
+use lib.ListN.{length, getD, take, drop, length-take}
 use lib.Seq.{take-take, take-at, drop-at, drop-drop, take-nil, getD-take, getD-drop}
 use Rattle.layout.specs.declared.Frame.{Frame}
 use Rattle.layout.specs.declared.Next.the-variants.{Framed, Ended, Broken}
@@ -47,7 +47,6 @@ pub record Passing (S : Shape) (G : Grammar) (image : List ℕ) (end p : ℕ) (s
   pub room : part p (end - p) image ≡ flat todo ++ rest
   pub ends : EndsAt S rest
   pub frames : Frames S G shut todo
-  pub bound : p ≤ end
 
 -- an entry's first byte is its code
 pub raw-code : {S : Shape} {G : Grammar} (L : Laws S G) (r : Raw) (t : List ℕ) → IsRaw G r → getD (r .bytes ++ t) 0 0 ≡ r .frame .code
@@ -100,7 +99,6 @@ module _ {S : Shape} {G : Grammar} (L : Laws S G) (image : List ℕ) (end : ℕ)
       let same : r .frame ≡ f = cc in
       let size : length (r .bytes) ≡ f .size = raw-size (fs .1) ∙ ap (λ (g : Frame). g .size) same in
       let bytes : r .bytes ≡ take (f .size) (part p (end - p) image) = sym (ap (take (f .size)) room ∙ take-at (r .bytes) (flat rs ++ w .rest) (f .size) size) in
-      let long : length (part p (end - p) image) ≡ length (r .bytes) + length (flat rs ++ w .rest) = ap length room ∙ length-append (r .bytes) (flat rs ++ w .rest) in
       record {
         raw = r;
         todo = rs;
@@ -114,7 +112,6 @@ module _ {S : Shape} {G : Grammar} (L : Laws S G) (image : List ℕ) (end : ℕ)
               room = sym (part-on image p (f .size) end) ∙ ap (drop (f .size)) room ∙ drop-at (r .bytes) (flat rs ++ w .rest) (f .size) size;
               ends = w .ends;
               frames = rw (← same) (fs .2);
-              bound = omega (arith, part-most image p (end - p), w .bound);
             };
         todoOn = refl;
       }
@@ -151,11 +148,11 @@ pub record First (f : Format) (image : List ℕ) (start end : ℕ) (all : List R
   pub todo : pass .todo ≡ all
 
 -- a walk that came to its end, as a pass begins it
-pub pass-first : (f : Format) (image : List ℕ) (start end : ℕ) → start ≤ end → IsDone (walked f image start end) → First f image start end (rawsIn (walked f image start end))
-pass-first f image start end le d = go (walked f image start end) refl d
+pub pass-first : (f : Format) (image : List ℕ) (start end : ℕ) → IsDone (walked f image start end) → First f image start end (rawsIn (walked f image start end))
+pass-first f image start end d = go (walked f image start end) refl d
   where
     go : (w : Walked) → walked f image start end ≡ w → IsDone w → First f image start end (rawsIn w)
     go (done rs q) e d =
         let x = walk-decode (laws f) start (part start (end - start) image) rs q e in
-        record { pass = record { todo = rs; rest = x .rest; room = x .joined; ends = decoded-ends (laws f) x; frames = x .frames; bound = le }; todo = refl }
+        record { pass = record { todo = rs; rest = x .rest; room = x .joined; ends = decoded-ends (laws f) x; frames = x .frames }; todo = refl }
     go (stop k q) e d = absurd d

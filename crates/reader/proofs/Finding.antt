@@ -90,9 +90,9 @@ pub record Pooling (image : List ℕ) (start end number p : ℕ) (shut : Bool) :
   pub pass : Passing (shape Tiny) (grammar Tiny) image end p shut
   pub same : poolString start (rawsIn (walked Tiny image start end)) number ≡ poolString p (pass .todo) number
 
-pub pooling-starts : (image : List ℕ) (start end number : ℕ) → start ≤ end → IsDone (walked Tiny image start end) → Pooling image start end number start false
-pooling-starts image start end number le d =
-    let w = pass-first Tiny image start end le d in
+pub pooling-starts : (image : List ℕ) (start end number : ℕ) → IsDone (walked Tiny image start end) → Pooling image start end number start false
+pooling-starts image start end number d =
+    let w = pass-first Tiny image start end d in
     record { pass = w .pass; same = ap (λ (rs : List Raw). poolString start rs number) (sym (w .todo)) }
 
 module _ {image : List ℕ} {start end number p : ℕ} {shut : Bool} (w : Pooling image start end number p shut) where

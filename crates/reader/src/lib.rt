@@ -257,7 +257,7 @@ fn string_in(pool: &[u8], place: Place, number: StringNumber) -> Located
 
 // The same in the pool of an image, whose entries begin at start.
 fn pool_string(image: &[u8], start: Place, end: Place, number: StringNumber) -> Located
-    requires { ⌜ (start .0 ≤ end .0) × (end .0 ≤ length (now image)) × (length (now image) ≤ 65536) × IsDone (walked Format.Tiny (now image) (start .0) (end .0)) ⌝ }
+    requires { ⌜ (end .0 ≤ length (now image)) × (length (now image) ≤ 65536) × IsDone (walked Format.Tiny (now image) (start .0) (end .0)) ⌝ }
     ensures { λ r. ⌜ r ≡ poolString (start .0) (rawsIn (walked Format.Tiny (now (image .entry)) (start .0) (end .0))) (number .0) ⌝ }
 {
     let mut p = start.0;

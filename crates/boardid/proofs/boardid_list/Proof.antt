@@ -37,7 +37,7 @@ put-records-requires c κs =
     let a = c .before .before .before .before .before .before .before .before .args in
     let q : taken (a .format) (a .edition) (now (a .image)) ≡ Is (c .before .before .before .t2 .given .0 .0) = sym (c .before .before .before .before .before .take-image .ensures) ∙ c .before .before .before .t2 .given .1 in
     let w = list-fills (a .format) (a .edition) (now (a .image)) (now (a .out)) _ q (search needs) in
-    (w .bound, w .done, w .room-enough)
+    (w .done, w .room-enough)
 
 pack-count-requires : tie.Need-pack-count-requires
 pack-count-requires c κs = search needs

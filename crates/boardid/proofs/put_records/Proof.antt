@@ -16,7 +16,7 @@ abbrev μ-loop : tie.MeasureT-loop
 μ-loop out₀ format edition image start end p₀ at₀ shut₀ out p at shut = end - p
 
 loop-holds : tie.Need-loop-holds Inv-loop μ-loop
-loop-holds c = let a = c .before .before .args in filling-starts (a .format) (a .edition) (now (a .image)) (a .start) (a .end) _ (search needs) (search needs)
+loop-holds c = let a = c .before .before .args in filling-starts (a .format) (a .edition) (now (a .image)) (a .start) (a .end) _ (search needs)
 
 entry-here-requires : tie.Need-entry-here-requires Inv-loop μ-loop
 entry-here-requires c κs = search needs

@@ -29,7 +29,7 @@ abbrev μ-loop : tie.MeasureT-loop
 loop-holds : tie.Need-loop-holds Inv-loop μ-loop
 loop-holds c =
     let a = c .before .args in
-    pooling-starts (now (a .image)) (a .start .0) (a .end .0) (a .number .0) (c .before .pre .0) (c .before .pre .3)
+    pooling-starts (now (a .image)) (a .start .0) (a .end .0) (a .number .0) (c .before .pre .2)
 
 next-frame-requires : tie.Need-next-frame-requires Inv-loop μ-loop
 next-frame-requires c κs = search needs
@@ -58,7 +58,7 @@ string-in-requires c κs =
     let f = c .before .before .before .before .before .x .given .0 .0 in
     let e : next tiny (l .shut) (part (l .p) (a .end .0 - l .p) i) ≡ Framed f = sym (c .before .before .before .before .before .before .before .next-frame .ensures) ∙ c .before .before .before .before .before .x .given .1 in
     let w = framed-lies Tiny (l .shut) i (l .p) (a .end .0) f e in
-    omega (arith, w .lies .inside, w .lies .valueLast, c .before .before .before .before .before .before .before .before .before .before .pre .2, ap length (c .part-of .ensures), part-most i (l .p + f .val) (f .vlen))
+    omega (arith, w .lies .inside, w .lies .valueLast, c .before .before .before .before .before .before .before .before .before .before .pre .1, ap length (c .part-of .ensures), part-most i (l .p + f .val) (f .vlen))
 
 returns : tie.Need-returns Inv-loop μ-loop
 returns c =

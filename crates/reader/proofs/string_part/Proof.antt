@@ -34,7 +34,7 @@ pool-string-requires c κs =
     let i = now (a .image) in
     let room = c .before .t2 .given .0 .0 in
     let w = took (a .format) (a .edition) i room (sym (c .before .before .before .take-image .ensures) ∙ c .before .t2 .given .1) in
-    (w .bound, w .inside, w .short, rw (tiny-walks (a .format) (a .edition) i room (c .before .before .before .before .if1 .left) w) tt)
+    (w .inside, w .short, rw (tiny-walks (a .format) (a .edition) i room (c .before .before .before .before .if1 .left) w) tt)
 
 returns-2 : tie.Need-returns-2
 unfolding stringAt
