@@ -1,7 +1,8 @@
--- Checks over a width w, a polynomial p and a start s: high bit first, nothing reflected, no final change (01, FBOSS v5 and Tiny version 2).
+-- Checks over a width w, a polynomial p and a start s: high bit first, nothing reflected, no final change (01, FBOSS v5 and Tiny version 2);
+-- and the reflected one, which is the same check of mirrored bytes, mirrored, with a final change (02, ONIE images and edition 3).
 -- Assumes nothing.
-use mathlib.Core.List.{List, [], _∷_}
-use Prim.Native.Nat.{ℕ, zero, suc, _-_, _*_, _/_, _%_, _^_}
+use mathlib.Core.List.{List, [], _∷_, map}
+use Prim.Native.Nat.{ℕ, zero, suc, _+_, _-_, _*_, _/_, _%_, _^_}
 use lib.Bits.{bitXor}
 
 -- f taken n times, for the eight single-bit steps of 01, FBOSS v5.
@@ -45,3 +46,20 @@ polynomial8 = 0x07
 -- The 8-bit check from the start s (01, Tiny version 2, whose start is 0).
 unfoldable pub check8Of : ℕ → List ℕ → ℕ
 check8Of s bs = checkOf 8 polynomial8 s bs
+
+-- The n low bits of x, the lowest at the top (02, ONIE images and edition 3: reflected).
+unfoldable pub mirror : (n x : ℕ) → ℕ
+mirror zero x = 0
+mirror (suc n) x = mirror n x * 2 + x / 2 ^ n % 2
+
+-- An entry of a table for a remainder of w bits that is kept mirrored: that of f for the mirrored byte, mirrored.
+unfoldable pub mirrored : (w : ℕ) → (ℕ → ℕ) → (i : ℕ) → ℕ
+mirrored w f i = mirror w (f (mirror 8 i))
+
+-- The polynomial of the 32-bit check, 04C11DB7h (02, ONIE images and edition 3).
+abbrev pub polynomial32 : ℕ
+polynomial32 = 0x04C11DB7
+
+-- The 32-bit check, reflected, with start FFFFFFFFh and final change FFFFFFFFh (02, ONIE images and edition 3).
+unfoldable pub check32Of : List ℕ → ℕ
+check32Of bs = bitXor (mirror 32 (checkOf 32 polynomial32 0xFFFFFFFF (map (mirror 8) bs))) 0xFFFFFFFF
