@@ -11,7 +11,7 @@ use lib.ListN.{length}
 use lib.Bits.{bitXor, xor-block, xor-shifted, xor-comm, xor-zero-r}
 use Rattle.crc.specs.Crc.{times, singleBit, byteIn, remainder, ahead, checkOf}
 use Rattle.crc.proofs.Xor.{Linear, xor-assoc, xor-swap}
-use Rattle.crc.proofs.SingleBit.{single-bit-linear, only-up}
+use Rattle.crc.proofs.SingleBit.{single-bit-linear, single-bit-lt, only-up}
 
 -- A linear step taken n times is linear.
 times-linear : (f : ℕ → ℕ) → Linear f → (n : ℕ) → Linear (times f n)
@@ -31,7 +31,7 @@ times-up w p (suc n) r h =
     ap (times (singleBit w p) n) (only-up w p r (omega arith)) ∙ times-up w p n (r * 2) moved ∙ up r n
 
 -- Of k + 8 bits the low k stay when eight leave.
-stay : (r k : ℕ) → r * 2 ^ 8 % 2 ^ (k + 8) ≡ r % 2 ^ k * 2 ^ 8
+pub stay : (r k : ℕ) → r * 2 ^ 8 % 2 ^ (k + 8) ≡ r % 2 ^ k * 2 ^ 8
 stay r k =
     mod-pow-add (r * 2 ^ 8) k 8
     ∙ ap₂ (λ (x y : ℕ). x % 2 ^ k * 2 ^ 8 + y) (shl-shr r 8) (mul-mod-left r (2 ^ 8))
@@ -79,7 +79,7 @@ apart w p s t (b ∷ bs) =
     ap (λ (r : ℕ). checkOf w p r bs) (byte-in-apart w p s t b) ∙ apart w p (byteIn w p s 0) (byteIn w p t b) bs
 
 -- The first byte of a check is one entry, that for as many bytes as are after it, and these are taken into what stays of r.
-peel : (w p r b : ℕ) (bs : List ℕ) → 8 ≤ w →
+pub peel : (w p r b : ℕ) (bs : List ℕ) → 8 ≤ w →
     checkOf w p r (b ∷ bs) ≡ bitXor (ahead w p (length bs) (bitXor (r / 2 ^ (w - 8)) b)) (checkOf w p (r * 2 ^ 8 % 2 ^ w) bs)
 unfolding checkOf ahead
 peel w p r b bs h =
@@ -91,6 +91,16 @@ peel w p r b bs h =
 alone : (w p b : ℕ) → 8 ≤ w → checkOf w p 0 (b ∷ []) ≡ remainder w p b
 unfolding checkOf
 alone w p b h = rw (zero-mod, zero-div) at (by-table w p 0 b h)
+
+-- A step whose outcomes are below m, taken n times, stays below m.
+times-lt : (f : ℕ → ℕ) (m : ℕ) → ((r : ℕ) → f r < m) → (n r : ℕ) → r < m → times f n r < m
+times-lt f m h zero r lt = lt
+times-lt f m h (suc n) r lt = times-lt f m h n (f r) (h r)
+
+-- An entry fits the width where p does.
+pub ahead-lt : (w p n i : ℕ) → p < 2 ^ w → ahead w p n i < 2 ^ w
+unfolding ahead remainder byteIn
+ahead-lt w p n i h = times-lt (λ (r : ℕ). byteIn w p r 0) (2 ^ w) (λ r. single-bit-lt w p _ h) n (remainder w p i) (single-bit-lt w p _ h)
 
 -- Four bytes taken into eight bits, by an entry for each of them: no bit stays after the first.
 pub four-by-table8 : (p r b c d e : ℕ) →

@@ -2,8 +2,9 @@
 -- Assumes nothing.
 use mathlib.Core.Path.{_≡_, sym, ap, ap₂, _∙_}
 use Prim.Native.Nat.{ℕ, _*_, _/_, _%_, _^_, _<_}
-use native.Mathlib.Nat.{mod-eq-of-lt, div-eq-of-lt, zero-mul}
-use lib.Bits.{bitXor, xor-shr, xor-mod, xor-zero-r, xor-self}
+use native.Mathlib.Nat.{mod-lt, mod-eq-of-lt, div-eq-of-lt, zero-mul, one-mul}
+use lib.Pow.{pow-pos}
+use lib.Bits.{bitXor, xor-shr, xor-mod, xor-zero-r, xor-self, xor-lt}
 use Rattle.crc.specs.Crc.{singleBit}
 use Rattle.crc.proofs.Xor.{Bit, off, on, bit, xor-swap, Linear, double-linear}
 
@@ -32,3 +33,14 @@ top-off w p r e = ap (λ (x : ℕ). bitXor (r * 2 % 2 ^ w) x) (ap (λ (x : ℕ).
 -- Bits that do not reach the top only move up.
 pub only-up : (w p r : ℕ) → r * 2 < 2 ^ w → singleBit w p r ≡ r * 2
 only-up w p r h = top-off w p r (ap (λ (x : ℕ). x % 2) (div-eq-of-lt h)) ∙ mod-eq-of-lt h
+
+-- What one bit takes off fits where p does.
+product-lt : (w p : ℕ) {x : ℕ} → Bit x → p < 2 ^ w → x * p < 2 ^ w
+product-lt w p off h = rw zero-mul (pow-pos w)
+product-lt w p on h = rw one-mul h
+
+-- A step's outcome fits the width where p does.
+pub single-bit-lt : (w p r : ℕ) → p < 2 ^ w → singleBit w p r < 2 ^ w
+unfolding singleBit
+single-bit-lt w p r h =
+    xor-lt w (r * 2 % 2 ^ w) (r * 2 / 2 ^ w % 2 * p) (mod-lt (r * 2) (pow-pos w)) (product-lt w p (bit (r * 2 / 2 ^ w)) h)

@@ -1,13 +1,15 @@
-// Checks of a slice of bytes, of 16 bits and of 8, each by constant tables of remainders.
+// Checks of a slice of bytes, of 16 bits, of 8 and of 32, each by constant tables of remainders.
 ghost use mathlib.Core.Path.{_≡_};
-ghost use Rattle.crc.specs.Crc.{byteIn, remainder, polynomial16, polynomial8, check16Of, check8Of};
+ghost use Rattle.crc.specs.Crc.{byteIn, remainder, mirror, mirrored, polynomial16, polynomial8, polynomial32, check16Of, check8Of, check32Of};
 ghost use Prim.Native.Nat.{ℕ, _/_, _%_};
 ghost use lib.Bits.{bitXor};
 ghost use Rattle.crc.specs.Table.{rows};
 
 mod ahead16;
+mod ahead32;
 mod ahead8;
 mod remainders16;
+mod remainders32;
 mod remainders8;
 
 use ahead8::AHEAD8_1;
@@ -16,8 +18,12 @@ use ahead8::AHEAD8_3;
 use ahead16::AHEAD16_1;
 use ahead16::AHEAD16_2;
 use ahead16::AHEAD16_3;
+use ahead32::AHEAD32_1;
+use ahead32::AHEAD32_2;
+use ahead32::AHEAD32_3;
 use remainders8::REMAINDERS8;
 use remainders16::REMAINDERS16;
+use remainders32::REMAINDERS32;
 
 // ---- of 16 bits
 
@@ -109,4 +115,54 @@ pub fn check8(start: u8, bytes: &[u8]) -> u8
         i += 1;
     }
     r
+}
+
+// ---- of 32 bits, with the remainder and the tables mirrored
+
+// The entry at i of a table.
+fn entry32(table: &[u32; 256], i: u8) -> u32
+    ensures { λ r. ⌜ ((f : ℕ → ℕ) → now (table .entry) ≡ rows f 256 0 → r ≡ f i) ⌝ }
+{
+    table[i as usize]
+}
+
+// One byte taken in, by one look into the table.
+fn byte_in32(remainders: &[u32; 256], r: u32, b: u8) -> u32
+    requires { ⌜ now remainders ≡ rows (mirrored 32 (remainder 32 polynomial32)) 256 0 ⌝ }
+    ensures { λ s. ⌜ mirror 32 s ≡ byteIn 32 polynomial32 (mirror 32 r) (mirror 8 b) ⌝ }
+{
+    let lowest = (r % 256) as u8;
+    (r >> 8) ^ entry32(remainders, lowest ^ b)
+}
+
+// The entries of two tables at the lowest byte of a remainder and the next one, after a byte of the message has gone onto each.
+fn mixed32(low: &[u32; 256], high: &[u32; 256], r: u32, b: u8, c: u8) -> u32
+    ensures { λ s. ⌜ ((f g : ℕ → ℕ) → now (low .entry) ≡ rows f 256 0 → now (high .entry) ≡ rows g 256 0 → s ≡ bitXor (f (bitXor (r % 256) b)) (g (bitXor (r / 256 % 256) c))) ⌝ }
+{
+    let lowest = (r % 256) as u8;
+    let next = ((r >> 8) % 256) as u8;
+    entry32(low, lowest ^ b) ^ entry32(high, next ^ c)
+}
+
+// The 32-bit check (02, ONIE images and edition 3), four bytes at once as in check16.
+pub fn check32(bytes: &[u8]) -> u32
+    ensures { λ r. ⌜ r ≡ check32Of (now (bytes .entry)) ⌝ }
+{
+    // Locals, lent to each turn, as those of check16.
+    let third = AHEAD32_3;
+    let second = AHEAD32_2;
+    let first = AHEAD32_1;
+    let remainders = REMAINDERS32;
+    let mut r: u32 = 0xFFFFFFFF;
+    let mut i = 0;
+    while i + 3 < bytes.len() {
+        let rest = mixed32(&first, &remainders, r >> 16, bytes[i + 2], bytes[i + 3]);
+        r = mixed32(&third, &second, r, bytes[i], bytes[i + 1]) ^ rest;
+        i += 4;
+    }
+    while i < bytes.len() {
+        r = byte_in32(&remainders, r, bytes[i]);
+        i += 1;
+    }
+    r ^ 0xFFFFFFFF
 }
