@@ -1,7 +1,7 @@
 -- The one fact about checks, over any width of at least eight bits: a byte is taken in by a shift and one table entry, and the bytes after it apart from that entry.
 -- Assumes nothing.
 use mathlib.Core.Path.{_≡_, refl, sym, ap, ap₂, _∙_}
-use mathlib.Core.List.{List, [], _∷_}
+use mathlib.Core.List.{List, [], _∷_, _++_}
 use Prim.Native.Nat.{ℕ, zero, suc, _+_, _-_, _*_, _/_, _%_, _^_, _≤_, _<_}
 use native.Mathlib.Nat.{mod-lt, mul-mod-left, add-zero, zero-mul, zero-mod, zero-div, mul-assoc, mul-comm, pow-suc, mul-le-mul-left, mul-one, div-one, sub-add-cancel}
 use native.Mathlib.Omega.{arith}
@@ -64,6 +64,12 @@ by-table w p r b h =
 -- Of eight bits none stay.
 pub by-table8 : (p r b : ℕ) → byteIn 8 p r b ≡ remainder 8 p (bitXor r b)
 by-table8 p r b = rw (mul-mod-left, div-one) at (by-table 8 p r b (lit≤ tt))
+
+-- Bytes and others after them are taken in one part after the other.
+pub in-parts : (w p s : ℕ) (bs cs : List ℕ) → checkOf w p s (bs ++ cs) ≡ checkOf w p (checkOf w p s bs) cs
+unfolding checkOf
+in-parts w p s [] cs = refl
+in-parts w p s (b ∷ bs) cs = in-parts w p (byteIn w p s b) bs cs
 
 -- A byte taken into a sum goes into one of its parts, and 0 into the other.
 byte-in-apart : (w p r s b : ℕ) → byteIn w p (bitXor r s) b ≡ bitXor (byteIn w p r 0) (byteIn w p s b)

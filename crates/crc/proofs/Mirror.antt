@@ -1,7 +1,7 @@
 -- The mirror of a number's low bits: it is linear and its own inverse; and a check whose remainder is kept mirrored, as the one fact about checks gives it.
 -- Assumes nothing.
 use mathlib.Core.Path.{_≡_, refl, sym, ap, ap₂, _∙_}
-use mathlib.Core.List.{List, [], _∷_, map}
+use mathlib.Core.List.{List, [], _∷_, _++_, map, map-append}
 use Prim.Native.Nat.{ℕ, zero, suc, _+_, _-_, _*_, _/_, _%_, _^_, _≤_, _<_}
 use native.Mathlib.Nat.{mod-lt, mod-one, mod-eq-of-lt, div-eq-of-lt, div-one, lt-of-le-of-lt, add-zero, zero-add, add-suc, mul-one, pow-suc, mul-assoc, sub-add-cancel}
 use native.Mathlib.Numerals.{one-add}
@@ -11,9 +11,9 @@ use lib.Dec.{lit<, lit≤}
 use lib.ListN.{length, getD, List·getD-map}
 use lib.Pow.{shr-shr, high, low, mod-pow-add, shr-le}
 use lib.Bits.{bitXor, xor-shr, xor-mod, xor-block, xor-comm, xor-self, xor-zero-r}
-use Rattle.crc.specs.Crc.{byteIn, remainder, ahead, checkOf, mirror, mirrored}
+use Rattle.crc.specs.Crc.{byteIn, remainder, ahead, checkOf, mirror, mirrored, polynomial32, check32Of}
 use Rattle.crc.proofs.Xor.{Linear, xor-assoc}
-use Rattle.crc.proofs.ByTable.{stay, peel, ahead-lt}
+use Rattle.crc.proofs.ByTable.{stay, in-parts, peel, ahead-lt}
 
 -- A mirror of n bits fits n bits.
 mirror-lt : (n x : ℕ) → mirror n x < 2 ^ n
@@ -132,3 +132,16 @@ four-by-table32 p r b c d e fits lt =
 pub mirror-at : (bs : List ℕ) (i : ℕ) → getD (map (mirror 8) bs) i 0 ≡ mirror 8 (getD bs i 0)
 unfolding mirror
 mirror-at bs i = List·getD-map (mirror 8) bs i 0
+
+-- Two bytes after others, all mirrored, are taken in last.
+pub two-last : (w p s : ℕ) (bs : List ℕ) (x y : ℕ) →
+    byteIn w p (byteIn w p (checkOf w p s (map (mirror 8) bs)) (mirror 8 x)) (mirror 8 y) ≡ checkOf w p s (map (mirror 8) (bs ++ (x ∷ y ∷ [])))
+unfolding checkOf
+two-last w p s bs x y =
+    let two : List ℕ = x ∷ y ∷ [] in
+    sym (ap (checkOf w p s) (map-append (mirror 8) bs two) ∙ in-parts w p s (map (mirror 8) bs) (map (mirror 8) two))
+
+-- The check of bytes that are all taken in, with the remainder kept mirrored: the final change of the remainder.
+pub final-change : (r : ℕ) (bs : List ℕ) → r < 2 ^ 32 → mirror 32 r ≡ checkOf 32 polynomial32 0xFFFFFFFF (map (mirror 8) bs) → bitXor r 0xFFFFFFFF ≡ check32Of bs
+unfolding check32Of
+final-change r bs lt e = ap (λ (x : ℕ). bitXor x 0xFFFFFFFF) (sym (mirror-back 32 lt) ∙ ap (mirror 32) e)

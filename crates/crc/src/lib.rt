@@ -1,6 +1,7 @@
 // Checks of a slice of bytes, of 16 bits, of 8 and of 32, each by constant tables of remainders.
 ghost use mathlib.Core.Path.{_≡_};
-ghost use Rattle.crc.specs.Crc.{byteIn, remainder, mirror, mirrored, polynomial16, polynomial8, polynomial32, check16Of, check8Of, check32Of};
+ghost use mathlib.Core.List.{[], _∷_, _++_, map};
+ghost use Rattle.crc.specs.Crc.{byteIn, remainder, ahead, checkOf, mirror, mirrored, polynomial16, polynomial8, polynomial32, check16Of, check8Of, check32Of};
 ghost use Prim.Native.Nat.{ℕ, _/_, _%_};
 ghost use lib.Bits.{bitXor};
 ghost use Rattle.crc.specs.Table.{rows};
@@ -144,7 +145,32 @@ fn mixed32(low: &[u32; 256], high: &[u32; 256], r: u32, b: u8, c: u8) -> u32
     entry32(low, lowest ^ b) ^ entry32(high, next ^ c)
 }
 
-// The 32-bit check (02, ONIE images and edition 3), four bytes at once as in check16.
+// The bytes taken in from the start FFFFFFFFh, four at once as in check16, over tables that are lent.
+fn bytes_in32(
+    third: &[u32; 256],
+    second: &[u32; 256],
+    first: &[u32; 256],
+    remainders: &[u32; 256],
+    bytes: &[u8],
+) -> u32
+    requires { ⌜ (now third ≡ rows (mirrored 32 (ahead 32 polynomial32 3)) 256 0) × (now second ≡ rows (mirrored 32 (ahead 32 polynomial32 2)) 256 0) × (now first ≡ rows (mirrored 32 (ahead 32 polynomial32 1)) 256 0) × (now remainders ≡ rows (mirrored 32 (remainder 32 polynomial32)) 256 0) ⌝ }
+    ensures { λ r. ⌜ mirror 32 r ≡ checkOf 32 polynomial32 0xFFFFFFFF (map (mirror 8) (now (bytes .entry))) ⌝ }
+{
+    let mut r: u32 = 0xFFFFFFFF;
+    let mut i = 0;
+    while i + 3 < bytes.len() {
+        let rest = mixed32(first, remainders, r >> 16, bytes[i + 2], bytes[i + 3]);
+        r = mixed32(third, second, r, bytes[i], bytes[i + 1]) ^ rest;
+        i += 4;
+    }
+    while i < bytes.len() {
+        r = byte_in32(remainders, r, bytes[i]);
+        i += 1;
+    }
+    r
+}
+
+// The 32-bit check (02, ONIE images and edition 3).
 pub fn check32(bytes: &[u8]) -> u32
     ensures { λ r. ⌜ r ≡ check32Of (now (bytes .entry)) ⌝ }
 {
@@ -153,16 +179,18 @@ pub fn check32(bytes: &[u8]) -> u32
     let second = AHEAD32_2;
     let first = AHEAD32_1;
     let remainders = REMAINDERS32;
-    let mut r: u32 = 0xFFFFFFFF;
-    let mut i = 0;
-    while i + 3 < bytes.len() {
-        let rest = mixed32(&first, &remainders, r >> 16, bytes[i + 2], bytes[i + 3]);
-        r = mixed32(&third, &second, r, bytes[i], bytes[i + 1]) ^ rest;
-        i += 4;
-    }
-    while i < bytes.len() {
-        r = byte_in32(&remainders, r, bytes[i]);
-        i += 1;
-    }
-    r ^ 0xFFFFFFFF
+    bytes_in32(&third, &second, &first, &remainders, bytes) ^ 0xFFFFFFFF
+}
+
+// The 32-bit check of bytes and two more after them that need not stand beside them.
+pub fn check32_closed(bytes: &[u8], x: u8, y: u8) -> u32
+    ensures { λ r. ⌜ r ≡ check32Of (now (bytes .entry) ++ (x ∷ y ∷ [])) ⌝ }
+{
+    // Locals, lent to each turn, as those of check16.
+    let third = AHEAD32_3;
+    let second = AHEAD32_2;
+    let first = AHEAD32_1;
+    let remainders = REMAINDERS32;
+    let r = bytes_in32(&third, &second, &first, &remainders, bytes);
+    byte_in32(&remainders, byte_in32(&remainders, r, x), y) ^ 0xFFFFFFFF
 }

@@ -1,162 +1,19 @@
--- `crc::check32` meets its contract: it takes in four bytes in each turn and then those that are left, with the remainder kept mirrored. The rules of all four tables
--- are computed once, before the first turn, and the loops carry them.
+-- `crc::check32` meets its contract: the rules of the four tables are computed, and the final change follows the bytes.
 -- Assumes nothing.
-use mathlib.Core.Path.{refl, sym, ap, ap₂, _∙_}
-use mathlib.Core.List.{List, map}
-use Prim.Native.Nat.{ℕ, _-_, _^_, _≤_, _<_}
+use mathlib.Core.Path.{refl}
 use borrow.Author.Needs.{needs}
-use lib.Bits.{bitXor, xor-lt}
-use lib.Dec.{lit<}
-use lib.ListN.{length, length-map}
-use Rattle.crc.specs.Crc.{singleBit, byteIn, remainder, ahead, mirror, mirrored, checkOf, polynomial32, check32Of}
+use Rattle.crc.specs.Crc.{singleBit, byteIn, remainder, ahead, mirror, mirrored}
 use Rattle.crc.specs.Table.{rows}
-use Rattle.crc.proofs.Mirror.{mirror-back, mirror-at, four-by-table32}
-use Rattle.crc.proofs.Table.{Made}
-use Rattle.crc.proofs.Loop.{Running, turn, four-turns, done}
+use Rattle.crc.proofs.Mirror.{final-change}
 use Rattle.crc.proofs.check32.Statement.{statement}
 use Rattle.crc.proofs.check32.Tie as tie
 
--- The rule of the table for a byte that is taken in with n others after it.
-abbrev entry : (n i : ℕ) → ℕ
-entry n = mirrored 32 (ahead 32 polynomial32 n)
-
--- The invariant of both loops: the mirrored bytes are taken in from the mirror of r.
-abbrev Inv : (bytes remainders : List ℕ) (r i : ℕ) → Type 0
-Inv bytes remainders r i =
-    let taken : List ℕ = map (mirror 8) bytes in
-    (i ≤ length bytes)
-    × (r < 2 ^ 32)
-    × Running 32 polynomial32 (checkOf 32 polynomial32 0xFFFFFFFF taken) taken (mirror 32 r) i
-    × Made (mirrored 32 (remainder 32 polynomial32)) remainders
-
-abbrev Inv-loop : tie.InvT-loop
-Inv-loop bytes third second first remainders r₀ i₀ r i = Inv bytes remainders r i × Made (entry 1) first × Made (entry 2) second × Made (entry 3) third
-
-abbrev μ-loop : tie.MeasureT-loop
-μ-loop bytes third second first remainders r₀ i₀ r i = length bytes - i
-
-abbrev Inv-loop2 : tie.InvT-loop2
-Inv-loop2 bytes remainders r₀ i₀ r i = Inv bytes remainders r i
-
-abbrev μ-loop2 : tie.MeasureT-loop2
-μ-loop2 bytes remainders r₀ i₀ r i = length bytes - i
-
-loop-holds : tie.Need-loop-holds Inv-loop μ-loop Inv-loop2 μ-loop2
+bytes-in32-requires : tie.Need-bytes-in32-requires
 unfolding rows mirrored mirror ahead byteIn remainder singleBit
-loop-holds c = ((search needs, lit< tt, (search needs, refl), refl), refl, refl, refl)
+bytes-in32-requires c κs = (refl, refl, refl, refl)
 
-add-loop : tie.Need-add-loop Inv-loop μ-loop Inv-loop2 μ-loop2
-add-loop c = search needs
-
-add-mixed32 : tie.Need-add-mixed32 Inv-loop μ-loop Inv-loop2 μ-loop2
-add-mixed32 c = search needs
-
-shared-slice-read-mixed32 : tie.Need-shared-slice-read-mixed32 Inv-loop μ-loop Inv-loop2 μ-loop2
-shared-slice-read-mixed32 c = search needs
-
-add-mixed32-2 : tie.Need-add-mixed32-2 Inv-loop μ-loop Inv-loop2 μ-loop2
-add-mixed32-2 c = search needs
-
-shared-slice-read-mixed32-2 : tie.Need-shared-slice-read-mixed32-2 Inv-loop μ-loop Inv-loop2 μ-loop2
-shared-slice-read-mixed32-2 c = search needs
-
-mixed32-requires : tie.Need-mixed32-requires Inv-loop μ-loop Inv-loop2 μ-loop2
-mixed32-requires c κs = search needs
-
-shared-slice-read-mixed32-3 : tie.Need-shared-slice-read-mixed32-3 Inv-loop μ-loop Inv-loop2 μ-loop2
-shared-slice-read-mixed32-3 c = search needs
-
-add-mixed32-3 : tie.Need-add-mixed32-3 Inv-loop μ-loop Inv-loop2 μ-loop2
-add-mixed32-3 c = search needs
-
-shared-slice-read-mixed32-4 : tie.Need-shared-slice-read-mixed32-4 Inv-loop μ-loop Inv-loop2 μ-loop2
-shared-slice-read-mixed32-4 c = search needs
-
-mixed32-requires-2 : tie.Need-mixed32-requires-2 Inv-loop μ-loop Inv-loop2 μ-loop2
-mixed32-requires-2 c κs = search needs
-
-add-i : tie.Need-add-i Inv-loop μ-loop Inv-loop2 μ-loop2
-add-i c = search needs
-
-loop-less : tie.Need-loop-less Inv-loop μ-loop Inv-loop2 μ-loop2
-loop-less c = search needs
-
-loop-again : tie.Need-loop-again Inv-loop μ-loop Inv-loop2 μ-loop2
-loop-again c =
-    let at-rest = c .before .before .before .before .before in
-    let at = at-rest .before .before .before .before .before .before .loop in
-    let rules = at .inv in
-    let inv = at .inv .0 in
-    let rest = at-rest .mixed32 .ensures (entry 1) (mirrored 32 (remainder 32 polynomial32)) (rules .1) (inv .3) in
-    let front = c .mixed322 .ensures (entry 3) (entry 2) (rules .3) (rules .2) in (
-      (
-        search needs,
-        xor-lt 32 (c .mixed322 .result) (at-rest .mixed32 .result) (search needs) (search needs),
-        four-turns 32 polynomial32 _ _ _ _ (inv .2) _ (rw length-map (search needs))
-            (simp mirror-at (ap (mirror 32) (ap₂ bitXor front rest) ∙ four-by-table32 polynomial32 (at .r) _ _ _ _ (lit< tt) (inv .1))),
-        inv .3,
-      ),
-      rules .1,
-      rules .2,
-      rules .3,
-    )
-
-loop2-holds : tie.Need-loop2-holds Inv-loop μ-loop Inv-loop2 μ-loop2
-loop2-holds c = c .before .loop .inv .0
-
-shared-slice-read-byte-in32 : tie.Need-shared-slice-read-byte-in32 Inv-loop μ-loop Inv-loop2 μ-loop2
-shared-slice-read-byte-in32 c = search needs
-
-byte-in32-requires : tie.Need-byte-in32-requires Inv-loop μ-loop Inv-loop2 μ-loop2
-byte-in32-requires c κs = c .before .before .before .loop2 .inv .3
-
-add-i-2 : tie.Need-add-i-2 Inv-loop μ-loop Inv-loop2 μ-loop2
-add-i-2 c = search needs
-
-loop2-less : tie.Need-loop2-less Inv-loop μ-loop Inv-loop2 μ-loop2
-loop2-less c = search needs
-
-loop2-again : tie.Need-loop2-again Inv-loop μ-loop Inv-loop2 μ-loop2
-loop2-again c =
-    let inv = c .before .before .before .before .loop2 .inv in (
-      search needs,
-      search needs,
-      turn 32 polynomial32 _ _ _ _ (inv .2) _ (rw length-map (search needs)) (rw mirror-at (c .byte-in32 .ensures)),
-      inv .3,
-    )
-
-returns : tie.Need-returns Inv-loop μ-loop Inv-loop2 μ-loop2
-unfolding check32Of
-returns c =
-    let inv = c .before .loop2 .inv in
-    ap (λ (x : ℕ). bitXor x 0xFFFFFFFF) (sym (mirror-back 32 (inv .1)) ∙ ap (mirror 32) (done 32 polynomial32 _ _ _ _ (inv .2) (rw length-map (search needs))))
+returns : tie.Need-returns
+returns c = final-change (c .bytes-in32 .result) _ (search needs) (c .bytes-in32 .ensures)
 
 pub check32-spec : {M : Type 1} → statement M
-check32-spec =
-    tie.close
-    (tie.spec
-    Inv-loop
-    μ-loop
-    Inv-loop2
-    μ-loop2
-    loop-holds
-    add-loop
-    add-mixed32
-    shared-slice-read-mixed32
-    add-mixed32-2
-    shared-slice-read-mixed32-2
-    mixed32-requires
-    shared-slice-read-mixed32-3
-    add-mixed32-3
-    shared-slice-read-mixed32-4
-    mixed32-requires-2
-    add-i
-    loop-less
-    loop-again
-    loop2-holds
-    shared-slice-read-byte-in32
-    byte-in32-requires
-    add-i-2
-    loop2-less
-    loop2-again
-    returns)
+check32-spec = tie.close (tie.spec bytes-in32-requires returns)
