@@ -11,10 +11,10 @@ use Rattle.layout.specs.declared.Format.{Format}
 use Rattle.layout.specs.declared.Frame.{Frame}
 use Rattle.layout.specs.declared.Next.the-variants.{Framed, Ended, Broken}
 use Rattle.layout.specs.Bytes.{if, part}
-use Rattle.layout.specs.Shape.{Shape, Label, next}
+use Rattle.layout.specs.Shape.{Shape, Label, next, fine}
 use Rattle.layout.specs.Editions.{shape, names}
 use Rattle.layout.specs.Walk.{Raw, Content, content, labelOf, Walked, done, stop, more, walk}
-use Rattle.layout.specs.Read.{seenBefore, readerRule, fault, fine, judge, complete, codesOf}
+use Rattle.layout.specs.Read.{seenBefore, readerRule, fault, judge, complete, codesOf}
 use Rattle.laws.specs.Marked.{allMarked}
 use Rattle.laws.specs.Passes.{walked, labels}
 use Rattle.laws.proofs.Frames.{rawOf}

@@ -1,4 +1,4 @@
--- An image is taken or refused, by its walk, its check and its judgement.
+-- An image is taken or refused, by its walk, what its format asks of its room, its check and its judgement.
 -- Assumes nothing.
 use Prim.Native.Nat.{ℕ, _+_, _-_, _≤_, _<_}
 use mathlib.Core.Path.{_≡_, refl, ap, sym, _∙_}
@@ -12,9 +12,10 @@ use Rattle.layout.specs.declared.Chosen.the-variants.{Known, Unknown}
 use Rattle.layout.specs.declared.Opened.the-variants.{Room, Closed}
 use Rattle.layout.specs.declared.Refusal.{Refusal}
 use Rattle.layout.specs.Bytes.{part, refusal}
+use Rattle.layout.specs.Shape.{Judged, fine, faulty}
 use Rattle.layout.specs.Editions.{shape, chosen}
 use Rattle.layout.specs.Walk.{Raw, flat, Walked, done, stop}
-use Rattle.layout.specs.Read.{sealed, checkPlace, Judged, fine, faulty, judge, complete, codesOf, Read, accepted, refused, readComplete, readWalked, readAs, readImage, limit}
+use Rattle.layout.specs.Read.{sealed, checkPlace, judge, complete, codesOf, Read, accepted, refused, readComplete, readWalked, readAs, readImage, limit}
 use Rattle.laws.specs.Passes.{walked}
 use Rattle.laws.proofs.Passes.{part-most}
 use Rattle.laws.proofs.Walking.{walk-decode}
@@ -56,23 +57,28 @@ stops-alike f e start k p (stop m r) q = sym q
 
 module _ (f : Format) (e : ℕ) (image : List ℕ) (start end : ℕ) where
   -- a broken frame
-  pub room-stops : (k p : ℕ) → endingOf f e (walked f image start end) start ≡ Stops k p → roomTaken (readWalked (walked f image start end) f e image start) end ≡ Isnt (refusal k p)
+  pub room-stops : (k p : ℕ) → endingOf f e (walked f image start end) start ≡ Stops k p → roomTaken (readWalked (walked f image start end) f e image start end) end ≡ Isnt (refusal k p)
   room-stops k p q = go (walked f image start end) q
     where
-      go : (w : Walked) → endingOf f e w start ≡ Stops k p → roomTaken (readWalked w f e image start) end ≡ Isnt (refusal k p)
+      go : (w : Walked) → endingOf f e w start ≡ Stops k p → roomTaken (readWalked w f e image start end) end ≡ Isnt (refusal k p)
       go (done rs r) q = let z : _≡_ {A = ℕ} 0 1 = cc in absurd (omega arith)
       go (stop m r) q = let x : m ≡ k = cc in let y : r ≡ p = cc in rw (x, y)
 
+  -- a room that is not as the format asks
+  pub room-unfilled : (n p : ℕ) (j : Judgement) → Done f e image start end n p j → shape f .filled p end ≡ faulty 5 9 →
+      roomTaken (readWalked (walked f image start end) f e image start end) end ≡ Isnt (refusal 5 9)
+  room-unfilled n p j d l = rw (d .isWalk, l)
+
   -- a wrong check
-  pub room-unsealed : (n p : ℕ) (j : Judgement) → Done f e image start end n p j → sealed (shape f) image p ≡ false →
-      roomTaken (readWalked (walked f image start end) f e image start) end ≡ Isnt (refusal 10 (checkPlace (shape f) p))
-  room-unsealed n p j d s = rw (d .isWalk, s)
+  pub room-unsealed : (n p : ℕ) (j : Judgement) → Done f e image start end n p j → shape f .filled p end ≡ fine → sealed (shape f) image p ≡ false →
+      roomTaken (readWalked (walked f image start end) f e image start end) end ≡ Isnt (refusal 10 (checkPlace (shape f) p))
+  room-unsealed n p j d l s = rw (d .isWalk, l, s)
 
   -- a rule broken, or a required field missing
-  pub room-faulty : (n p k q : ℕ) → Done f e image start end n p (Faulty k q) → sealed (shape f) image p ≡ true →
-      roomTaken (readWalked (walked f image start end) f e image start) end ≡ Isnt (refusal k q)
-  room-faulty n p k q d s =
-      rw (d .isWalk, s) (go (judge (shape f) e [] (d .raws) start) (complete (shape f .required) (codesOf (d .raws))) refl (d .judges))
+  pub room-faulty : (n p k q : ℕ) → Done f e image start end n p (Faulty k q) → shape f .filled p end ≡ fine → sealed (shape f) image p ≡ true →
+      roomTaken (readWalked (walked f image start end) f e image start end) end ≡ Isnt (refusal k q)
+  room-faulty n p k q d l s =
+      rw (d .isWalk, l, s) (go (judge (shape f) e [] (d .raws) start) (complete (shape f .required) (codesOf (d .raws))) refl (d .judges))
     where
       go : (x : Judged) (b : Bool) → complete (shape f .required) (codesOf (d .raws)) ≡ b → judgement x b ≡ Faulty k q →
           roomTaken (readComplete x f start (d .raws)) end ≡ Isnt (refusal k q)
@@ -81,10 +87,10 @@ module _ (f : Format) (e : ℕ) (image : List ℕ) (start end : ℕ) where
       go (faulty m r) b c h = let y : m ≡ k = cc in let z : r ≡ q = cc in rw (y, z)
 
   -- nothing is wrong
-  pub room-fine : (n p : ℕ) → Done f e image start end n p Fine → sealed (shape f) image p ≡ true →
-      roomTaken (readWalked (walked f image start end) f e image start) end ≡ Is (record { format = f; start = start; end = end; over = p; count = n })
-  room-fine n p d s =
-      rw (d .isWalk, s, d .over, d .count) (go (judge (shape f) e [] (d .raws) start) (complete (shape f .required) (codesOf (d .raws))) refl (d .judges))
+  pub room-fine : (n p : ℕ) → Done f e image start end n p Fine → shape f .filled p end ≡ fine → sealed (shape f) image p ≡ true →
+      roomTaken (readWalked (walked f image start end) f e image start end) end ≡ Is (record { format = f; start = start; end = end; over = p; count = n })
+  room-fine n p d l s =
+      rw (d .isWalk, l, s, d .over, d .count) (go (judge (shape f) e [] (d .raws) start) (complete (shape f .required) (codesOf (d .raws))) refl (d .judges))
     where
       go : (x : Judged) (b : Bool) → complete (shape f .required) (codesOf (d .raws)) ≡ b → judgement x b ≡ Fine →
           roomTaken (readComplete x f start (d .raws)) end ≡ Is (record { format = f; start = start; end = end; over = start + length (flat (d .raws)); count = length (d .raws) })
@@ -108,11 +114,11 @@ module _ (f e : ℕ) (image : List ℕ) where
   taken-closed g r k le o = rw (k, le-ltb limit (length image) le, o)
 
   pub taken-room : (g : Format) (start end : ℕ) → chosen f e ≡ Known g → length image ≤ limit → shape g .opened image ≡ Room start end →
-      taken f e image ≡ roomTaken (readWalked (walked g image start end) g e image start) end
+      taken f e image ≡ roomTaken (readWalked (walked g image start end) g e image start end) end
   unfolding taken readImage readAs
-  taken-room g start end k le o = rw (k, le-ltb limit (length image) le, o) (go (readWalked (walked g image start end) g e image start) refl)
+  taken-room g start end k le o = rw (k, le-ltb limit (length image) le, o) (go (readWalked (walked g image start end) g e image start end) refl)
     where
-      go : (x : Read) → readWalked (walked g image start end) g e image start ≡ x → takenBy x image ≡ roomTaken x end
+      go : (x : Read) → readWalked (walked g image start end) g e image start end ≡ x → takenBy x image ≡ roomTaken x end
       go (accepted h s rs) q =
           let same : h ≡ g = accepted-made g (laws g) e image h s rs (unfold readAs in (rw o q)) .0 in
           rw (same, o)

@@ -8,10 +8,10 @@ use lib.ListN.{length, take}
 use Rattle.layout.specs.declared.Format.{Format}
 use Rattle.layout.specs.declared.Next.the-variants.{Framed}
 use Rattle.layout.specs.Bytes.{part}
-use Rattle.layout.specs.Shape.{next}
+use Rattle.layout.specs.Shape.{next, Judged, fine, faulty}
 use Rattle.layout.specs.Editions.{shape}
 use Rattle.layout.specs.Walk.{Raw, Walked, done, stop}
-use Rattle.layout.specs.Read.{Judged, fine, faulty, judge, complete, codesOf}
+use Rattle.layout.specs.Read.{judge, complete, codesOf}
 use Rattle.accept.specs.declared.Ending.{Ending}
 use Rattle.accept.specs.declared.Ending.the-variants.{Ends, Stops}
 use Rattle.accept.specs.declared.Judgement.{Judgement}

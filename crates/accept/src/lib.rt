@@ -109,7 +109,7 @@ fn seen_key(image: &[u8], start: usize, end: usize, p: usize, key: &[u8]) -> boo
     false
 }
 
-// Whether the entry of this code and key, at p, comes a second time; a VPD 01h does not where its key is not known.
+// Whether the entry of this code and key, at p, comes a second time; a VPD 01h does not where its key is not known, and an ONIE FDh never does.
 fn is_seen(
     format: Format,
     image: &[u8],
@@ -137,6 +137,12 @@ fn is_seen(
             seen[at] != 0
         }
         Format::Tiny => seen[at] != 0,
+        Format::Onie => {
+            if code == 0xFD {
+                return false;
+            }
+            seen[at] != 0
+        }
     }
 }
 
@@ -276,6 +282,7 @@ fn is_keyed(format: Format) -> bool
         Format::Fboss => false,
         Format::Vpd => true,
         Format::Tiny => false,
+        Format::Onie => false,
     }
 }
 
@@ -314,18 +321,22 @@ fn closing_length(format: Format) -> usize
         Format::Fboss => 2,
         Format::Vpd => 1,
         Format::Tiny => 0,
+        Format::Onie => 2,
     }
 }
 
 // An image whose entries have the room from start to end.
 fn take_room(format: Format, edition: u32, image: &[u8], start: usize, end: usize) -> Taken
     requires { ⌜ (start ≤ end) × (end ≤ 65536) ⌝ }
-    ensures { λ r. ⌜ r ≡ roomTaken (readWalked (walked format (now (image .entry)) start end) format edition (now (image .entry)) start) end ⌝ }
+    ensures { λ r. ⌜ r ≡ roomTaken (readWalked (walked format (now (image .entry)) start end) format edition (now (image .entry)) start end) end ⌝ }
 {
     let w = read_room(format, edition, image, start, end);
     match w {
         Ending::Stops(k, p) => refused(k, p),
         Ending::Ends(count, p, j) => {
+            if !frames::is_filled(format, p, end) {
+                return refused(5, 9);
+            }
             if !frames::is_sealed(format, image, p) {
                 return refused(10, p + closing_length(format));
             }
@@ -343,7 +354,7 @@ fn take_room(format: Format, edition: u32, image: &[u8], start: usize, end: usiz
     }
 }
 
-// The image, or its refusal: 16, 1, 2, its header's, 5, 6 and 9, then 10, 7 and 8, 11.
+// The image, or its refusal: 16, 1, 2, its header's, 5, 6 and 9, what its format asks of its room, then 10, 7 and 8, 11.
 pub fn take_image(format: u32, edition: u32, image: &[u8]) -> Taken
     ensures { λ r. ⌜ r ≡ taken format edition (now (image .entry)) ⌝ }
 {

@@ -31,7 +31,7 @@ use Rattle.records.specs.Words.{wordsBytes, readingWords, recordWords}
 use Rattle.records.specs.Exports.{recorded, entryCall, listCall, walkFormat, walkEdition, walkEntry, stepCall, checkCall, writeCall, editCall}
 use Rattle.laws.specs.Contents.{said, replaced}
 use Rattle.laws.specs.Grammar.{Each, none, also as andAlso}
-use Rattle.promises.specs.Words.{FormatNumber, fboss, vpd, tiny, KnownEdition, Counts, Item, here, there, tellsCheck, tellsWrite, tellsEdit}
+use Rattle.promises.specs.Words.{Serves, Counts, Item, here, there, tellsCheck, tellsWrite, tellsEdit}
 use Rattle.promises.specs.Kinds.{Marked}
 use Rattle.promises.specs.RoundTrip.{fieldSays}
 use Rattle.promises.specs.OlderReads.{Alike, AllAlike, also}
@@ -42,7 +42,7 @@ use Rattle.promises.proofs.Refusals.{farthest}
 use Rattle.promises.proofs.Entries.{CheckedIn}
 use Rattle.promises.proofs.ReadCalls.{checked-in}
 use Rattle.promises.proofs.WriteCalls.{MadeLow, editNumbers, edited-low, written-low}
-use Rattle.promises.proofs.Telling.{written-some, edited-some}
+use Rattle.promises.proofs.Telling.{one-format, written-some, edited-some}
 use Rattle.promises.proofs.PublishedRules.{published-rules}
 use Rattle.promises.proofs.RecordKinds.{kinds}
 use Rattle.promises.proofs.RoundTrip.{round-trip}
@@ -198,11 +198,6 @@ module _ (f e : ℕ) (image : List ℕ) (i : ℕ) (v out : List ℕ) (z : number
 
 -- ---- demand 2
 
-same-format : {f : ℕ} {g h : Format} → FormatNumber f g → FormatNumber f h → g ≡ h
-same-format fboss fboss = refl
-same-format vpd vpd = refl
-same-format tiny tiny = refl
-
 none-at : (n k : ℕ) → getD {A = ℕ} (replicate n 0) k 0 ≡ 0
 none-at zero k = refl
 none-at (suc n) zero = refl
@@ -240,7 +235,7 @@ module _ (f e : ℕ) (image : List ℕ) (bs : Bytes image) (n : ℕ) (c : Counts
   accepted-from-c =
       let g = published-rules .accepted-is f e image n c in
       let k = kinds f e image n c in
-      let same : k .format ≡ g .format = same-format (k .serves .number) (g .serves .number) in
+      let same : k .format ≡ g .format = one-format (k .serves .number) (g .serves .number) in
       let long : length (g .contents) ≡ n =
       ap length (sym (g .reads .says)) ∙ length-map (said image) (g .reads .entries) ∙ ap (λ (t : Told). t .count) (sym (g .reads .accepted) ∙ c) in
       record {
@@ -311,9 +306,9 @@ module _ (g : Format) (o : ℕ) (image older newer : List ℕ) (j : ℕ) (x y : 
             ∙ ap (λ (r : Reading). getD (toldReading r ++ replicate 8 0) (k - 8) 0) (a .plain (rw code at n) .1) ∙ none-at 9 (k - 8);
       }
 
-older-from-c : (f o n : ℕ) (image : List ℕ) (bs : Bytes image) (count : ℕ) → KnownEdition o → o ≤ n → Counts (tellsCheck f n image) count → OlderFromC f o n image
-older-from-c f o n image bs count known le c =
-    let r = older-reads f o n image count known le c in
+older-from-c : (f o n : ℕ) (g : Format) (image : List ℕ) (bs : Bytes image) (count : ℕ) → Serves f o g → o ≤ n → Counts (tellsCheck f n image) count → OlderFromC f o n image
+older-from-c f o n g image bs count serves le c =
+    let r = older-reads f o n g image count serves le c in
     let counted : countOf (checkCall f n image) ≡ count = whole-reads .checked f n image .count (ap (λ (t : Told). t .number) c) ∙ ap (λ (t : Told). t .count) c in
     record {
       format = r .format;
@@ -334,7 +329,7 @@ from-c =
       fields = fields-from-c;
       accepted = λ f e image bs z. let c = check-counts f e image z in accepted-from-c f e image bs (c .0) (c .1);
       written = written-from-c;
-      older = λ f o n image bs k le z. let c = check-counts f n image z in older-from-c f o n image bs (c .0) k le (c .1);
+      older = λ f o n g image bs serves le z. let c = check-counts f n image z in older-from-c f o n g image bs (c .0) serves le (c .1);
       edited = λ f o n image i v out bs le z y outBytes.
           let c = check-counts f n image z in
           let m = countOf (editCall f o image i v out .answer) in

@@ -6,13 +6,14 @@ use native.Mathlib.Omega.{arith}
 use lib.ListN.{length, getD, take, drop}
 use lib.Dec.{eqb}
 use Rattle.layout.specs.declared.Format.{Format}
-use Rattle.layout.specs.declared.Format.the-variants.{Fboss, Vpd, Tiny}
+use Rattle.layout.specs.declared.Format.the-variants.{Fboss, Vpd, Tiny, Onie}
 use Rattle.layout.specs.declared.Reading.{Reading}
 use Rattle.layout.specs.declared.Reading.the-variants.{Addresses}
 use Rattle.layout.specs.Bytes.{between, part, highFirst}
 use Rattle.layout.specs.Fboss.{fboss, fbossReading}
 use Rattle.layout.specs.Vpd.{vpd}
 use Rattle.layout.specs.Tiny.{tiny, tinyReading, batch, passed}
+use Rattle.layout.specs.Onie.{onie, onieReading}
 use Rattle.layout.specs.Editions.{shape}
 use Rattle.layout.specs.Calls.{toldReading}
 use Rattle.laws.specs.Grammar.{Each, none, also}
@@ -91,7 +92,7 @@ identity-words k v rest lt ps ws = then k (omega arith) (byte 0 (byte 1 (byte 2 
     byte i ws = then (getD v i 0) (omega (arith, byte-of v i ps)) ws
 
 pub reading-words : (f : Format) (c : ℕ) (v : List ℕ) → Bytes v → ReadingWords (shape f .reading c v)
-unfolding fboss vpd tiny fbossReading tinyReading toldReading
+unfolding fboss vpd tiny onie fbossReading tinyReading onieReading toldReading
 reading-words Fboss c v ps =
     either ReadingWords (between 8 10 c) (λ _. then 2 (omega arith) (then (getD v 0 0) (omega (arith, byte-of v 0 ps)) none))
     (λ _. either ReadingWords (between 17 20 c)
@@ -107,3 +108,7 @@ reading-words Tiny c v ps =
     (λ _. either ReadingWords (between 0x80 0x81 c)
     (λ _. identity-words 7 v (batch v ∷ []) (omega arith) ps (then (batch v) (omega (arith, byte-of v 6 ps, byte-of v 7 ps)) none))
     (λ _. then 0 (omega arith) none)))))
+reading-words Onie c v ps =
+    either ReadingWords (eqb c 0x24) (λ _. addresses-words (highFirst 0 (part 0 6 v)) 1 (number-below 0 6 v ps) (omega arith))
+    (λ _. either ReadingWords (eqb c 0x2A) (λ _. then 2 (omega arith) (then (highFirst 0 (part 0 2 v)) (omega (arith, number-below 0 2 v ps)) none))
+    (λ _. either ReadingWords (eqb c 0xFD) (λ _. then 0 (omega arith) none) (λ _. then 1 (omega arith) none)))

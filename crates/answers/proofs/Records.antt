@@ -8,13 +8,14 @@ use native.Mathlib.Omega.{arith}
 use lib.ListN.{length, getD, replicate}
 use lib.Seq.{getD-append-add}
 use Rattle.layout.specs.declared.Format.{Format}
-use Rattle.layout.specs.declared.Format.the-variants.{Fboss, Vpd, Tiny}
+use Rattle.layout.specs.declared.Format.the-variants.{Fboss, Vpd, Tiny, Onie}
 use Rattle.layout.specs.declared.Entry.{Entry}
 use Rattle.layout.specs.declared.Reading.{Reading}
 use Rattle.layout.specs.declared.Reading.the-variants.{Plain, Text, Number, Addresses, Numbered, Tests, Identified, Batched}
 use Rattle.layout.specs.Fboss.{fboss}
 use Rattle.layout.specs.Vpd.{vpd}
 use Rattle.layout.specs.Tiny.{tiny}
+use Rattle.layout.specs.Onie.{onie}
 use Rattle.layout.specs.Editions.{shape, names, kind}
 use Rattle.layout.specs.Walk.{Raw, content, flat}
 use Rattle.layout.specs.Read.{limit, Read, accepted, refused, readImage}
@@ -104,6 +105,7 @@ kind-small f e c lt = either (λ n. n < 4294967296) (names (shape f) e c) (λ _.
     numbered Fboss = unfold fboss in (omega arith)
     numbered Vpd = unfold vpd in (omega arith)
     numbered Tiny = unfold tiny in (omega arith)
+    numbered Onie = unfold onie in (omega arith)
 
 entry-whole : (f : Format) (e p : ℕ) (r : Raw) → r .frame .code < 256 → Bytes (r .bytes) → Inside limit (entryOf (shape f) e p r) → WholeRecord (entryOf (shape f) e p r)
 unfolding entryOf content

@@ -17,7 +17,7 @@ use Rattle.laws.specs.Contents.{replaced}
 use Rattle.laws.specs.Grammar.{Each, Published}
 use Rattle.records.specs.Words.{wordsBytes}
 use Rattle.records.specs.Exports.{checkCall, valueCall, stringCall, entryCall, listCall, stepCall, writeCall, editCall}
-use Rattle.promises.specs.Words.{KnownEdition, Serves, Item}
+use Rattle.promises.specs.Words.{Serves, Item}
 use Rattle.promises.specs.Names.{Named}
 use Rattle.promises.specs.Kinds.{Means}
 use Rattle.promises.specs.Numbers.{imageNumbers, writeNumbers}
@@ -138,7 +138,7 @@ pub record FromC : Type 0 where
   pub fields : FieldsFromC
   pub accepted : (f e : ℕ) (image : List ℕ) → Bytes image → numberOf (checkCall f e image) ≡ 0 → AcceptedFromC f e image
   pub written : WrittenFromC
-  pub older : (f o n : ℕ) (image : List ℕ) → Bytes image → KnownEdition o → o ≤ n → numberOf (checkCall f n image) ≡ 0 → OlderFromC f o n image
+  pub older : (f o n : ℕ) (format : Format) (image : List ℕ) → Bytes image → Serves f o format → o ≤ n → numberOf (checkCall f n image) ≡ 0 → OlderFromC f o n image
   pub edited : (f o n : ℕ) (image : List ℕ) (i : ℕ) (value out : List ℕ) → Bytes image → o ≤ n → numberOf (checkCall f n image) ≡ 0 →
       numberOf (editCall f o image i value out .answer) ≡ 0 →
       let output = editCall f o image i value out .memory in

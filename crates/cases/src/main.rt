@@ -1,4 +1,4 @@
-// Runs the cases that 01 marks Run, 000's full example, 002's, a write, and 02's name with a dot: a line for each, "ok" or "WRONG".
+// Runs the cases that 01 marks Run, 000's full example, 002's, a write, 02's name with a dot, and ONIE images: a line for each, "ok" or "WRONG".
 use layout::Checked;
 use layout::Entry;
 use layout::Lookup;
@@ -176,6 +176,7 @@ fn fill_full(image: &mut [u8; 8192]) {
 fn run_full(image: &[u8; 8192]) {
     say(b"full example, edition 2", is_full(2, image));
     say(b"full example, edition 1", is_full(1, image));
+    say(b"full example, edition 3", is_full(3, image));
 }
 
 // 002's encoding example.
@@ -324,6 +325,54 @@ fn run_names(image: &[u8], fields: &[u8]) {
     );
 }
 
+// A switch's image: a name, an address, a number, and two vendor blocks.
+fn is_switch(image: &[u8]) -> bool {
+    has_count(4, 3, image, 5)
+        & has_head(4, 3, image, 0, 0x21, 1057, &image[..0])
+        & has_value(4, 3, image, 0, b"SW1")
+        & has_head(4, 3, image, 2, 0x2A, 1066, &image[..0])
+        & has_value(4, 3, image, 4, b"\x00\x00\x1Fy\x01")
+}
+
+// Its name edited, in 50 bytes of output.
+fn is_switch_edited(image: &[u8]) -> bool {
+    let mut out = [0xAAu8; 50];
+    let m = editor::edit_entry(&mut out, 4, 3, image, 0, b"SW12");
+    is_made(m, 49)
+        & parts::same_bytes(
+            &out,
+            b"TlvInfo\x00\x01\x00&!\x04SW12$\x06\x00\x11\x223DU*\x02\x00\x08\xFD\x05\x00\x00\x1Fy\x00\xFD\x05\x00\x00\x1Fy\x01\xFE\x04\x97\xF7\x9C\xC3\xFF",
+        )
+}
+
+// An image of a serial number written, in 22 bytes of output.
+fn is_serial_written(fields: &[u8]) -> bool {
+    let mut out = [0xAAu8; 22];
+    let m = writer::write_image(&mut out, 4, 3, fields, b"A7");
+    is_made(m, 21)
+        & parts::same_bytes(
+            &out,
+            b"TlvInfo\x00\x01\x00\x0A#\x02A7\xFE\x04\x92\xA1\xA41\xFF",
+        )
+}
+
+fn run_onie(empty: &[u8], switch: &[u8], fields: &[u8]) {
+    say(
+        b"check of the digits",
+        crc::check32(b"123456789") == 0xCBF43926,
+    );
+    say(b"onie without entries", has_count(4, 3, empty, 0));
+    say(
+        b"onie by edition 2, refused",
+        is_refused(4, 2, empty, 16, 0),
+    );
+    say(b"onie by edition 9, refused", is_refused(4, 9, empty, 1, 0));
+    say(b"onie cut, refused", is_refused(4, 3, &empty[..16], 5, 9));
+    say(b"switch", is_switch(switch));
+    say(b"switch edited", is_switch_edited(switch));
+    say(b"serial number written", is_serial_written(fields));
+}
+
 fn run_edits(image: &[u8]) {
     say(b"sku edited in ten bytes", is_edited(image));
     say(b"sku edited in seven bytes, refused", is_not_edited(image));
@@ -363,6 +412,11 @@ fn main() {
     run_names(
         b"\x01\x08lab.rack\x02R2\x00",
         b"\x01\x00\x00\x00\x00\x00\x00\x00\x08\x00\x00\x00\x08\x00\x00\x00\x02\x00\x00\x00",
+    );
+    run_onie(
+        b"TlvInfo\x00\x01\x00\x06\xFE\x04\xD4C\x1C\x18",
+        b"TlvInfo\x00\x01\x00%!\x03SW1$\x06\x00\x11\x223DU*\x02\x00\x08\xFD\x05\x00\x00\x1Fy\x00\xFD\x05\x00\x00\x1Fy\x01\xFE\x04cm\x83\xB7",
+        b"\x23\x00\x00\x00\x00\x00\x00\x00\x00\x00\x00\x00\x00\x00\x00\x00\x02\x00\x00\x00",
     );
     run_pool(b"\x56\x02\x0E\x10\x00\x01\x06AB\xC3D\xC5F\x2F");
 }

@@ -1,16 +1,12 @@
-// FBOSS v5: its header, what opens an entry, its rules and readings, and its check.
+// FBOSS v5: its header, its rules and readings, and its check.
 ghost use mathlib.Core.Path.{_≡_};
 ghost use mathlib.Core.Bool.{_&&_};
 ghost use Prim.Native.Nat.{_+_, _*_, _-_};
-ghost use Rattle.layout.specs.Fboss.{fboss, fbossOpened, fbossHead, printable, dateRule, fbossRule, fbossReading};
-ghost use Rattle.layout.specs.Bytes.{all, between};
+ghost use Rattle.layout.specs.Fboss.{fboss, fbossOpened, dateRule, fbossRule, fbossReading};
+ghost use Rattle.layout.specs.Bytes.{between};
 ghost use Rattle.layout.specs.Read.{sealed};
-use layout::Head;
-use layout::Headed;
 use layout::Opened;
-use layout::Place;
 use layout::Reading;
-use layout::Refusal;
 
 fn wide(x: u8) -> u32
     ensures { λ r. ⌜ r ≡ x ⌝ }
@@ -18,19 +14,10 @@ fn wide(x: u8) -> u32
     x as u32
 }
 
-fn closed(number: u32) -> Opened
-    ensures { λ r. ⌜ r ≡ Opened.Closed (record { number = number; place = record { 0 = 0 } }) ⌝ }
-{
-    Opened::Closed(Refusal {
-        number: number,
-        place: Place(0),
-    })
-}
-
 pub fn fboss_opened(image: &[u8]) -> Opened
     ensures { λ r. ⌜ r ≡ fbossOpened (now (image .entry)) ⌝ }
 {
-    let no_header = closed(3);
+    let no_header = parts::closed(3, 0);
     if image.len() < 4 {
         return no_header;
     }
@@ -41,69 +28,12 @@ pub fn fboss_opened(image: &[u8]) -> Opened
         return no_header;
     }
     if image[2] != 0x05 {
-        return closed(4);
+        return parts::closed(4, 0);
     }
     if image[3] != 0xFF {
         return no_header;
     }
     Opened::Room(4, image.len())
-}
-
-pub fn fboss_head(s: &[u8]) -> Headed
-    ensures { λ r. ⌜ r ≡ fbossHead (now (s .entry)) ⌝ }
-{
-    if s.len() <= 0 {
-        return Headed::Wrong(5);
-    }
-    let code = s[0];
-    if code == 0 {
-        return Headed::Wrong(6);
-    }
-    if code == 255 {
-        return Headed::Wrong(6);
-    }
-    if code == 250 {
-        if s.len() <= 1 {
-            return Headed::Wrong(5);
-        }
-        if s[1] != 2 {
-            return Headed::Wrong(6);
-        }
-        if s.len() <= 3 {
-            return Headed::Wrong(5);
-        }
-        return Headed::Ends;
-    }
-    Headed::Opens(Head {
-        code: wide(code),
-        key: 1,
-        klen: 0,
-        at: 1,
-    })
-}
-
-// Whether every byte is one of low to high.
-fn all_between(v: &[u8], low: u8, high: u8) -> bool
-    ensures { λ r. ⌜ r ≡ all (between low high) (now (v .entry)) ⌝ }
-{
-    let mut i = 0;
-    while i < v.len() {
-        if v[i] < low {
-            return false;
-        }
-        if high < v[i] {
-            return false;
-        }
-        i += 1;
-    }
-    true
-}
-
-// Whether every byte is text.
-fn all_printable(v: &[u8]) -> bool
-    ensures { λ r. ⌜ r ≡ all printable (now (v .entry)) ⌝ }
-{
-    all_between(v, 0x20, 0x7E)
 }
 
 // The number that a digit shows.
@@ -142,7 +72,7 @@ fn date_rule(v: &[u8]) -> bool
     if v.len() != 8 {
         return false;
     }
-    if all_between(v, 0x30, 0x39) {
+    if parts::all_between(v, 0x30, 0x39) {
         in_calendar(two_digits(v[4], v[5]), two_digits(v[6], v[7]))
     } else {
         false
@@ -153,18 +83,18 @@ pub fn fboss_rule(code: u32, v: &[u8]) -> bool
     ensures { λ r. ⌜ r ≡ fbossRule code (now (v .entry)) ⌝ }
 {
     match code {
-        1 | 2 | 6 | 7 | 11 | 12 | 14 | 15 | 16 => all_printable(v),
+        1 | 2 | 6 | 7 | 11 | 12 | 14 | 15 | 16 => parts::all_printable(v),
         3 => {
             if v.len() != 8 {
                 return false;
             }
-            all_printable(v)
+            parts::all_printable(v)
         }
         4 | 5 => {
             if v.len() != 12 {
                 return false;
             }
-            all_printable(v)
+            parts::all_printable(v)
         }
         13 => date_rule(v),
         8 | 9 | 10 => v.len() == 1,

@@ -102,6 +102,7 @@ pub fn field_key(format: Format, values: &[u8], x: Field) -> &[u8]
         }
         Format::Fboss => &values[..0],
         Format::Tiny => &values[..0],
+        Format::Onie => &values[..0],
     }
 }
 
@@ -132,5 +133,6 @@ pub fn parts_inside(format: Format, values: &[u8], x: Field) -> bool
         Format::Vpd => is_inside(key, values.len()) & is_inside(value, values.len()),
         Format::Fboss => is_inside(value, values.len()),
         Format::Tiny => is_inside(value, values.len()),
+        Format::Onie => is_inside(value, values.len()),
     }
 }

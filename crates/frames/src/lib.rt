@@ -1,9 +1,9 @@
 // What a call's format and edition come to, and what stands at a place of an image, for any format.
 ghost use mathlib.Core.Path.{_≡_};
 ghost use mathlib.Core.Bool.{false};
-ghost use Prim.Native.Nat.{_-_, _*_, _<_};
-ghost use Rattle.layout.specs.Bytes.{part};
-ghost use Rattle.layout.specs.Shape.{onLength, onHead, next};
+ghost use Prim.Native.Nat.{_-_, _*_, _≤_};
+ghost use Rattle.layout.specs.Bytes.{if, part};
+ghost use Rattle.layout.specs.Shape.{fine, faulty, onLength, onHead, next};
 ghost use Rattle.layout.specs.Editions.{shape, withEdition, chosen, names, kind};
 ghost use Rattle.layout.specs.Read.{sealed};
 ghost use Rattle.laws.specs.Marked.{allMarked};
@@ -24,17 +24,32 @@ pub enum Spot {
     Nowhere,
 }
 
-// A format, where the edition is known.
+// The first edition that has the format.
+fn first_edition(format: Format) -> u32
+    ensures { λ r. ⌜ r ≡ shape format .edition ⌝ }
+{
+    match format {
+        Format::Fboss => 1,
+        Format::Vpd => 1,
+        Format::Tiny => 1,
+        Format::Onie => 3,
+    }
+}
+
+// A format, where the edition is known and has it.
 fn with_edition(edition: u32, format: Format) -> Chosen
     ensures { λ r. ⌜ r ≡ withEdition edition format ⌝ }
 {
-    if (1 <= edition) & (edition <= 2) {
-        return Chosen::Known(format);
+    if (1 <= edition) & (edition <= 3) {
+        if first_edition(format) <= edition {
+            return Chosen::Known(format);
+        }
+        return Chosen::Unknown(16);
     }
     Chosen::Unknown(1)
 }
 
-// The format and edition of a call: 16, then 1.
+// The format and edition of a call: 16 for a number that is no format's, then 1, then 16 for a format that the edition does not have.
 pub fn choose(format: u32, edition: u32) -> Chosen
     ensures { λ r. ⌜ r ≡ chosen format edition ⌝ }
 {
@@ -46,6 +61,9 @@ pub fn choose(format: u32, edition: u32) -> Chosen
     }
     if format == 3 {
         return with_edition(edition, Format::Tiny);
+    }
+    if format == 4 {
+        return with_edition(edition, Format::Onie);
     }
     Chosen::Unknown(16)
 }
@@ -88,17 +106,30 @@ pub fn is_named(format: Format, edition: u32, code: u32) -> bool
             }
             false
         }
+        Format::Onie => {
+            if (0x21 <= code) & (code <= 0x25) {
+                return 3 <= edition;
+            }
+            if (0x2A <= code) & (code <= 0x2D) {
+                return 3 <= edition;
+            }
+            if (0xFD <= code) & (code <= 0xFD) {
+                return 3 <= edition;
+            }
+            false
+        }
     }
 }
 
 // The format's number times 256.
 fn kind_base(format: Format) -> u32
-    ensures { λ r. ⌜ (r ≡ shape format .number * 256) × (r < 1024) ⌝ }
+    ensures { λ r. ⌜ (r ≡ shape format .number * 256) × (r ≤ 1024) ⌝ }
 {
     match format {
         Format::Fboss => 256,
         Format::Vpd => 512,
         Format::Tiny => 768,
+        Format::Onie => 1024,
     }
 }
 
@@ -120,6 +151,7 @@ pub fn is_last(format: Format, code: u32) -> bool
         Format::Fboss => false,
         Format::Vpd => false,
         Format::Tiny => code == 0x01,
+        Format::Onie => false,
     }
 }
 
@@ -131,6 +163,7 @@ pub fn open_image(format: Format, image: &[u8]) -> Opened
         Format::Fboss => fboss::fboss_opened(image),
         Format::Vpd => Opened::Room(0, image.len()),
         Format::Tiny => tiny::tiny_opened(image),
+        Format::Onie => onie::onie_opened(image),
     }
 }
 
@@ -158,6 +191,7 @@ fn length_of(format: Format, s: &[u8], h: Head) -> Length
             vpd::group_length(s, at)
         }
         Format::Tiny => tiny::tiny_length(s, h),
+        Format::Onie => parts::byte_length(s, h),
     }
 }
 
@@ -202,9 +236,10 @@ fn frame_of(format: Format, shut: bool, s: &[u8]) -> Next
     ensures { λ r. ⌜ r ≡ next (shape format) shut (now (s .entry)) ⌝ }
 {
     match format {
-        Format::Fboss => on_head(fboss::fboss_head(s), Format::Fboss, s),
+        Format::Fboss => on_head(parts::coded_head(s, 250, 2), Format::Fboss, s),
         Format::Vpd => on_head(vpd::vpd_head(s), Format::Vpd, s),
         Format::Tiny => on_head(tiny::tiny_head(shut, s), Format::Tiny, s),
+        Format::Onie => on_head(parts::coded_head(s, 0xFE, 4), Format::Onie, s),
     }
 }
 
@@ -261,6 +296,19 @@ pub fn is_sealed(format: Format, image: &[u8], p: usize) -> bool
         Format::Fboss => fboss::fboss_sealed(image, p),
         Format::Vpd => true,
         Format::Tiny => tiny::tiny_sealed(image, p),
+        Format::Onie => onie::onie_sealed(image, p),
+    }
+}
+
+// Whether the room of entries that end at p, and which ends at `end`, is as the format asks; where it is not, the declared length is wrong.
+pub fn is_filled(format: Format, p: usize, end: usize) -> bool
+    ensures { λ r. ⌜ shape format .filled p end ≡ if r (λ _. fine) (λ _. faulty 5 9) ⌝ }
+{
+    match format {
+        Format::Fboss => true,
+        Format::Vpd => true,
+        Format::Tiny => true,
+        Format::Onie => onie::is_filled(p, end),
     }
 }
 
@@ -272,6 +320,7 @@ pub fn reader_key(format: Format, code: u32, key: &[u8]) -> bool
         Format::Fboss => true,
         Format::Vpd => vpd::vpd_reader_key(code, key),
         Format::Tiny => true,
+        Format::Onie => true,
     }
 }
 
@@ -283,6 +332,7 @@ pub fn writer_key(format: Format, code: u32, key: &[u8]) -> bool
         Format::Fboss => true,
         Format::Vpd => vpd::vpd_writer_key(code, key),
         Format::Tiny => true,
+        Format::Onie => true,
     }
 }
 
@@ -294,6 +344,7 @@ pub fn value_rule(format: Format, code: u32, v: &[u8]) -> bool
         Format::Fboss => fboss::fboss_rule(code, v),
         Format::Vpd => vpd::vpd_rule(code, v),
         Format::Tiny => tiny::tiny_rule(code, v),
+        Format::Onie => onie::onie_rule(code, v),
     }
 }
 
@@ -308,6 +359,7 @@ pub fn is_complete(format: Format, seen: &[u8; 256]) -> bool
         }
         Format::Vpd => true,
         Format::Tiny => true,
+        Format::Onie => true,
     }
 }
 
@@ -319,5 +371,6 @@ pub fn reading_of(format: Format, code: u32, v: &[u8]) -> Reading
         Format::Fboss => fboss::fboss_reading(code, v),
         Format::Vpd => Reading::Plain,
         Format::Tiny => tiny::tiny_reading(code, v),
+        Format::Onie => onie::onie_reading(code, v),
     }
 }

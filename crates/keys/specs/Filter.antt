@@ -7,7 +7,7 @@ use lib.ListN.{length, getD, set}
 use lib.Bits.{bitOr}
 use lib.Dec.{leb, eqb}
 use Rattle.layout.specs.declared.Format.{Format}
-use Rattle.layout.specs.declared.Format.the-variants.{Fboss, Vpd, Tiny}
+use Rattle.layout.specs.declared.Format.the-variants.{Fboss, Vpd, Tiny, Onie}
 use Rattle.layout.specs.Bytes.{if}
 
 -- one byte taken into a hash of 32 bits
@@ -58,6 +58,7 @@ abbrev pub keyCount : Format → ℕ → ℕ
 keyCount Fboss n = 0
 keyCount Vpd n = n
 keyCount Tiny n = 0
+keyCount Onie n = 0
 
 -- the words of a filter for few keys, for more of them, and for any number
 abbrev pub fewWords : ℕ

@@ -88,6 +88,7 @@ fn key_count(format: Format, count: usize) -> usize
         Format::Fboss => 0,
         Format::Vpd => count,
         Format::Tiny => 0,
+        Format::Onie => 0,
     }
 }
 

@@ -6,10 +6,10 @@ use mathlib.Core.List.{List, [], _∷_, _++_, map}
 use mathlib.Core.Bool.{Bool, true, false, _||_}
 use native.Mathlib.Omega.{arith}
 use lib.ListN.{length}
-use lib.Dec.{ltb, eqb}
+use lib.Dec.{ltb, leb, eqb}
 use borrow.Author.Tests.{ltb-false, le-ltb}
 use Rattle.layout.specs.declared.Format.{Format}
-use Rattle.layout.specs.declared.Format.the-variants.{Fboss, Vpd, Tiny}
+use Rattle.layout.specs.declared.Format.the-variants.{Fboss, Vpd, Tiny, Onie}
 use Rattle.layout.specs.declared.Chosen.{Chosen}
 use Rattle.layout.specs.declared.Chosen.the-variants.{Known, Unknown}
 use Rattle.layout.specs.declared.Checked.the-variants.{Accepted, Refused}
@@ -28,36 +28,39 @@ use Rattle.laws.proofs.Formats.{laws}
 
 -- ---- formats and editions
 
-with-known : (e : ℕ) (f g : Format) → withEdition e f ≡ Known g → (f ≡ g) × (knownEdition e ≡ true)
-with-known e f g q = go (knownEdition e) q
+-- the edition is known, and has the format
+pub record Has (g : Format) (e : ℕ) : Type 0 where
+  pub known : knownEdition e ≡ true
+  pub since : leb (shape g .edition) e ≡ true
+
+with-known : (e : ℕ) (f g : Format) → withEdition e f ≡ Known g → (f ≡ g) × Has g e
+with-known e f g q = go (knownEdition e) (leb (shape f .edition) e) refl refl q
   where
-    go : (b : Bool) → if b (λ _. Known f) (λ _. Unknown 1) ≡ Known g → (f ≡ g) × (b ≡ true)
-    go true q = (let r : f ≡ g = cc in r, refl)
-    go false q = let z : _≡_ {A = ℕ} 0 1 = cc in absurd (omega arith)
+    go : (b c : Bool) → knownEdition e ≡ b → leb (shape f .edition) e ≡ c → if b (λ _. if c (λ _. Known f) (λ _. Unknown 16)) (λ _. Unknown 1) ≡ Known g → (f ≡ g) × Has g e
+    go true true k s q = let r : f ≡ g = cc in (r, record { known = k; since = rw r at s })
+    go true false k s q = let z : _≡_ {A = ℕ} 0 1 = cc in absurd (omega arith)
+    go false c k s q = let z : _≡_ {A = ℕ} 0 1 = cc in absurd (omega arith)
 
 -- the format that a number stands for, whatever the edition
 pub data Stands : ℕ → Format → Type 0 where
   one : {f : ℕ} → eqb f 1 ≡ true → Stands f Fboss
   two : {f : ℕ} → eqb f 1 ≡ false → eqb f 2 ≡ true → Stands f Vpd
   three : {f : ℕ} → eqb f 1 ≡ false → eqb f 2 ≡ false → eqb f 3 ≡ true → Stands f Tiny
+  four : {f : ℕ} → eqb f 1 ≡ false → eqb f 2 ≡ false → eqb f 3 ≡ false → eqb f 4 ≡ true → Stands f Onie
 
-pub chosen-stands : (f e : ℕ) (g : Format) → chosen f e ≡ Known g → Stands f g × (knownEdition e ≡ true)
+pub chosen-stands : (f e : ℕ) (g : Format) → chosen f e ≡ Known g → Stands f g × Has g e
 unfolding chosen
-chosen-stands f e g q = go (eqb f 1) (eqb f 2) (eqb f 3) refl refl refl q
+chosen-stands f e g q = go (eqb f 1) (eqb f 2) (eqb f 3) (eqb f 4) refl refl refl refl q
   where
-    go : (b₁ b₂ b₃ : Bool) → eqb f 1 ≡ b₁ → eqb f 2 ≡ b₂ → eqb f 3 ≡ b₃ →
-        if b₁ (λ _. withEdition e Fboss) (λ _. if b₂ (λ _. withEdition e Vpd) (λ _. if b₃ (λ _. withEdition e Tiny) (λ _. Unknown 16))) ≡ Known g →
-        Stands f g × (knownEdition e ≡ true)
-    go true b₂ b₃ e₁ e₂ e₃ q = let w = with-known e Fboss g q in (rw (← w .0) (one e₁), w .1)
-    go false true b₃ e₁ e₂ e₃ q = let w = with-known e Vpd g q in (rw (← w .0) (two e₁ e₂), w .1)
-    go false false true e₁ e₂ e₃ q = let w = with-known e Tiny g q in (rw (← w .0) (three e₁ e₂ e₃), w .1)
-    go false false false e₁ e₂ e₃ q = let z : _≡_ {A = ℕ} 0 1 = cc in absurd (omega arith)
-
-pub stands-chosen : (f e : ℕ) (g : Format) → Stands f g → knownEdition e ≡ true → chosen f e ≡ Known g
-unfolding chosen
-stands-chosen f e Fboss (one e₁) k = rw (e₁, k)
-stands-chosen f e Vpd (two e₁ e₂) k = rw (e₁, e₂, k)
-stands-chosen f e Tiny (three e₁ e₂ e₃) k = rw (e₁, e₂, e₃, k)
+    go : (b₁ b₂ b₃ b₄ : Bool) → eqb f 1 ≡ b₁ → eqb f 2 ≡ b₂ → eqb f 3 ≡ b₃ → eqb f 4 ≡ b₄ →
+        if b₁ (λ _. withEdition e Fboss)
+        (λ _. if b₂ (λ _. withEdition e Vpd) (λ _. if b₃ (λ _. withEdition e Tiny) (λ _. if b₄ (λ _. withEdition e Onie) (λ _. Unknown 16)))) ≡ Known g →
+        Stands f g × Has g e
+    go true b₂ b₃ b₄ e₁ e₂ e₃ e₄ q = let w = with-known e Fboss g q in (rw (← w .0) (one e₁), w .1)
+    go false true b₃ b₄ e₁ e₂ e₃ e₄ q = let w = with-known e Vpd g q in (rw (← w .0) (two e₁ e₂), w .1)
+    go false false true b₄ e₁ e₂ e₃ e₄ q = let w = with-known e Tiny g q in (rw (← w .0) (three e₁ e₂ e₃), w .1)
+    go false false false true e₁ e₂ e₃ e₄ q = let w = with-known e Onie g q in (rw (← w .0) (four e₁ e₂ e₃ e₄), w .1)
+    go false false false false e₁ e₂ e₃ e₄ q = let z : _≡_ {A = ℕ} 0 1 = cc in absurd (omega arith)
 
 -- ---- accepted images
 
@@ -99,12 +102,13 @@ accepted-reading f e image g start rs q = choose (chosen f e) refl q
     choose (Unknown n) k q = never-refused q
 
 -- an image that is so made, and short enough, is read as accepted
-pub made-reading : (f e : ℕ) (g : Format) (rs : List Raw) (z t : List ℕ) → chosen f e ≡ Known g → grammar g .Closing z → Frames (shape g) (grammar g) false rs →
+pub made-reading : (f e : ℕ) (g : Format) (rs : List Raw) (z t : List ℕ) → chosen f e ≡ Known g → grammar g .Closing z → grammar g .Takes (length (flat rs)) →
+    Frames (shape g) (grammar g) false rs →
     Lawful (shape g) e [] (map content rs) → complete (shape g .required) (codesOf rs) ≡ true → length (imageFrom (shape g) (flat rs) z t) ≤ limit →
     readImage f e (imageFrom (shape g) (flat rs) z t) ≡ accepted g (length (shape g .header (length (flat rs)))) rs
 unfolding readImage
-made-reading f e g rs z t k cl fs lw cm short =
-    rw (k, le-ltb limit (length (imageFrom (shape g) (flat rs) z t)) short) (made-accepted g (laws g) e rs z t cl fs lw cm)
+made-reading f e g rs z t k cl fits fs lw cm short =
+    rw (k, le-ltb limit (length (imageFrom (shape g) (flat rs) z t)) short) (made-accepted g (laws g) e rs z t cl fits fs lw cm)
 
 -- what a check that accepts has found
 pub record Found (f e : ℕ) (image : List ℕ) (n : ℕ) : Type 0 where

@@ -10,9 +10,10 @@ use Rattle.layout.specs.declared.Headed.the-variants.{Opens, Ends, Wrong}
 use Rattle.layout.specs.declared.Length.the-variants.{Reads, Fails}
 use Rattle.layout.specs.declared.Opened.the-variants.{Room, Closed}
 use Rattle.layout.specs.Bytes.{part}
-use Rattle.layout.specs.Shape.{Shape}
+use Rattle.layout.specs.Shape.{Shape, fine}
 use Rattle.layout.specs.Editions.{names}
 use Rattle.layout.specs.Read.{limit}
+use Rattle.layout.specs.Write.{imageOf}
 use Rattle.laws.specs.Grammar.{Grammar, Each}
 
 -- the head that bytes of an opening are read as: the key is what they end with
@@ -49,12 +50,14 @@ pub record Holds (S : Shape) (image entries : List ℕ) : Type 0 where
   pub opened : S .opened image ≡ Room (length (S .header (length entries))) end
   pub room : part (length (S .header (length entries))) (end - length (S .header (length entries))) image ≡ entries ++ rest
   pub ends : (b : Bool) → S .head b rest ≡ Ends
+  pub filled : S .filled (length (S .header (length entries)) + length entries) end ≡ fine
 
--- an image is a header, these entries, a closing and a rest
+-- an image is a header, these entries, which may have so many bytes, a closing and a rest
 pub record Wholly (S : Shape) (G : Grammar) (image entries : List ℕ) : Type 0 where
   pub closing : List ℕ
   pub rest : List ℕ
   pub closes : G .Closing closing
+  pub takes : G .Takes (length entries)
   pub is : image ≡ S .header (length entries) ++ (entries ++ (closing ++ rest))
 
 pub record Laws (S : Shape) (G : Grammar) : Type 1 where
@@ -83,9 +86,11 @@ pub record Laws (S : Shape) (G : Grammar) : Type 1 where
   -- images
   pub closing-made : G .Closing (S .closing)
   pub closing-length : (z : List ℕ) → G .Closing z → length z ≡ length (S .closing)
-  pub room-made : (entries z t : List ℕ) → G .Closing z →
+  -- entries of an image that is not too long to be written
+  pub takes-made : (entries : List ℕ) → length (imageOf S entries) ≤ S .most → G .Takes (length entries)
+  pub room-made : (entries z t : List ℕ) → G .Closing z → G .Takes (length entries) →
       let image = S .header (length entries) ++ (entries ++ (z ++ (S .check (S .header (length entries) ++ entries) ++ t))) in
       Holds S image entries
   pub room-sound : (b : Bool) (image entries rest : List ℕ) (start end : ℕ) → S .opened image ≡ Room start end →
-      part start (end - start) image ≡ entries ++ rest → S .head b rest ≡ Ends →
+      part start (end - start) image ≡ entries ++ rest → S .head b rest ≡ Ends → S .filled (start + length entries) end ≡ fine →
       (start ≡ length (S .header (length entries))) × Wholly S G image entries

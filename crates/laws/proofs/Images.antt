@@ -15,10 +15,10 @@ use Rattle.layout.specs.declared.Refusal.{Refusal}
 use Rattle.layout.specs.declared.Opened.{Opened}
 use Rattle.layout.specs.declared.Opened.the-variants.{Room, Closed}
 use Rattle.layout.specs.Bytes.{if, sameBytes, part, refusal}
-use Rattle.layout.specs.Shape.{Shape}
+use Rattle.layout.specs.Shape.{Shape, Judged, fine, faulty}
 use Rattle.layout.specs.Editions.{shape}
 use Rattle.layout.specs.Walk.{Raw, Content, content, flat, Walked, done, stop, walk}
-use Rattle.layout.specs.Read.{sealed, checkPlace, Judged, fine, faulty, judge, complete, codesOf, Read, accepted, refused, bad, readComplete, readAs}
+use Rattle.layout.specs.Read.{sealed, checkPlace, judge, complete, codesOf, Read, accepted, refused, bad, readComplete, readAs}
 use Rattle.laws.specs.Grammar.{Grammar, grammar, Lawful}
 use Rattle.laws.proofs.Format.{Laws, Holds, Wholly}
 use Rattle.laws.proofs.Frames.{part-between}
@@ -78,6 +78,7 @@ pub record IsFramed (f : Format) (image : List ℕ) (start : ℕ) (rs : List Raw
   pub closing : List ℕ
   pub rest : List ℕ
   pub closes : grammar f .Closing closing
+  pub takes : grammar f .Takes (length (flat rs))
   pub is : image ≡ imageFrom (shape f) (flat rs) closing rest
   pub starts : start ≡ length (shape f .header (length (flat rs)))
   pub frames : Frames (shape f) (grammar f) false rs
@@ -87,11 +88,13 @@ pub entries-in : (S : Shape) (image entries z t : List ℕ) (start : ℕ) → im
     start + length entries ≤ length image
 entries-in S image entries z t start is starts = rw (is, starts) (simp length-append (omega arith))
 
--- why an image is refused before the rules: its header, the frame of an entry, or its check
+-- why an image is refused before the rules: its header, the frame of an entry, what its format asks of its room, or its check
 pub data Unframed (f : Format) (image : List ℕ) : Refusal → Type 0 where
   badHeader : {r : Refusal} → shape f .opened image ≡ Closed r → Unframed f image r
   badFrame : {start end n p : ℕ} → shape f .opened image ≡ Room start end → walk (shape f) false start (part start (end - start) image) ≡ stop n p →
       Unframed f image (refusal n p)
+  badRoom : {start end p n q : ℕ} {rs : List Raw} → shape f .opened image ≡ Room start end → walk (shape f) false start (part start (end - start) image) ≡ done rs p →
+      shape f .filled p end ≡ faulty n q → Unframed f image (refusal n q)
   badCheck : {start end p : ℕ} {rs : List Raw} → shape f .opened image ≡ Room start end → walk (shape f) false start (part start (end - start) image) ≡ done rs p →
       sealed (shape f) image p ≡ false → Unframed f image (refusal 10 (checkPlace (shape f) p))
 
@@ -103,26 +106,26 @@ pub data Way (f : Format) (image : List ℕ) : Type 0 where
 
 module _ (f : Format) (L : Laws (shape f) (grammar f)) where
   -- an image that is so made is read up to the rules
-  pub made-read : (e : ℕ) (rs : List Raw) (z t : List ℕ) → grammar f .Closing z → Frames (shape f) (grammar f) false rs →
+  pub made-read : (e : ℕ) (rs : List Raw) (z t : List ℕ) → grammar f .Closing z → grammar f .Takes (length (flat rs)) → Frames (shape f) (grammar f) false rs →
       let start = length (shape f .header (length (flat rs))) in
       readAs f e (imageFrom (shape f) (flat rs) z t) ≡ readComplete (judge (shape f) e [] rs start) f start rs
   unfolding readAs
-  made-read e rs z t cl fs =
+  made-read e rs z t cl fits fs =
       let S : Shape = shape f in
       let H : List ℕ = S .header (length (flat rs)) in
-      let h : Holds S (imageFrom S (flat rs) z t) (flat rs) = L .room-made (flat rs) z t cl in
+      let h : Holds S (imageFrom S (flat rs) z t) (flat rs) = L .room-made (flat rs) z t cl fits in
       let whole : imageFrom S (flat rs) z t ≡ (H ++ flat rs) ++ (z ++ (S .check (H ++ flat rs) ++ t)) = sym (append-assoc H (flat rs) (z ++ (S .check (H ++ flat rs) ++ t))) in
       let seal : sealed S (imageFrom S (flat rs) z t) (length H + length (flat rs)) ≡ true
       = rw whole (sealed-is S (H ++ flat rs) z t (length H + length (flat rs)) (length-append H (flat rs)) (L .closing-length z cl)) in
-      rw (h .opened, h .room, walk-flat L false (length H) rs (h .rest) fs (h .ends), seal)
+      rw (h .opened, h .room, walk-flat L false (length H) rs (h .rest) fs (h .ends), h .filled, seal)
 
-  -- an image that is walked to its end, and whose check is right, is so made
+  -- an image that is walked to its end, whose room is as its format asks, and whose check is right, is so made
   walked-framed : (image : List ℕ) (start end p : ℕ) (rs : List Raw) → shape f .opened image ≡ Room start end →
-      walk (shape f) false start (part start (end - start) image) ≡ done rs p → sealed (shape f) image p ≡ true → IsFramed f image start rs
-  walked-framed image start end p rs op w sl =
+      walk (shape f) false start (part start (end - start) image) ≡ done rs p → shape f .filled p end ≡ fine → sealed (shape f) image p ≡ true → IsFramed f image start rs
+  walked-framed image start end p rs op w fl sl =
       let S : Shape = shape f in
       let d = walk-decode L start (part start (end - start) image) rs p w in
-      let m = L .room-sound (d .flag) image (flat rs) (d .rest) start end op (d .joined) (d .ended) in
+      let m = L .room-sound (d .flag) image (flat rs) (d .rest) start end op (d .joined) (d .ended) (rw (d .place) at fl) in
       let H : List ℕ = S .header (length (flat rs)) in
       let x = m .1 in
       let whole : image ≡ (H ++ flat rs) ++ (x .closing ++ x .rest) = x .is ∙ sym (append-assoc H (flat rs) (x .closing ++ x .rest)) in
@@ -133,6 +136,7 @@ module _ (f : Format) (L : Laws (shape f) (grammar f)) where
         closing = x .closing;
         rest = drop (length (S .check (H ++ flat rs))) (x .rest);
         closes = x .closes;
+        takes = x .takes;
         is = x .is ∙ ap (λ (y : List ℕ). H ++ (flat rs ++ (x .closing ++ y))) stored;
         starts = m .0;
         frames = d .frames;
@@ -143,12 +147,17 @@ module _ (f : Format) (L : Laws (shape f) (grammar f)) where
   way image = opened (shape f .opened image) refl
     where
       seals : (start end p : ℕ) (rs : List Raw) (t : Bool) → shape f .opened image ≡ Room start end →
-          walk (shape f) false start (part start (end - start) image) ≡ done rs p → sealed (shape f) image p ≡ t → Way f image
-      seals start end p rs true op w sl = framed start rs (walked-framed image start end p rs op w sl) (λ e. rw (op, w, sl))
-      seals start end p rs false op w sl = unframed (refusal 10 (checkPlace (shape f) p)) (badCheck op w sl) (λ e. rw (op, w, sl))
+          walk (shape f) false start (part start (end - start) image) ≡ done rs p → shape f .filled p end ≡ fine → sealed (shape f) image p ≡ t → Way f image
+      seals start end p rs true op w fl sl = framed start rs (walked-framed image start end p rs op w fl sl) (λ e. rw (op, w, fl, sl))
+      seals start end p rs false op w fl sl = unframed (refusal 10 (checkPlace (shape f) p)) (badCheck op w sl) (λ e. rw (op, w, fl, sl))
+
+      fills : (start end p : ℕ) (rs : List Raw) (j : Judged) → shape f .opened image ≡ Room start end →
+          walk (shape f) false start (part start (end - start) image) ≡ done rs p → shape f .filled p end ≡ j → Way f image
+      fills start end p rs fine op w fl = seals start end p rs (sealed (shape f) image p) op w fl refl
+      fills start end p rs (faulty n q) op w fl = unframed (refusal n q) (badRoom op w fl) (λ e. rw (op, w, fl))
 
       walked : (start end : ℕ) (x : Walked) → shape f .opened image ≡ Room start end → walk (shape f) false start (part start (end - start) image) ≡ x → Way f image
-      walked start end (done rs p) op w = seals start end p rs (sealed (shape f) image p) op w refl
+      walked start end (done rs p) op w = fills start end p rs (shape f .filled p end) op w refl
       walked start end (stop n p) op w = unframed (refusal n p) (badFrame op w) (λ e. rw (op, w))
 
       opened : (x : Opened) → shape f .opened image ≡ x → Way f image
@@ -162,6 +171,7 @@ pub record Accepts (f : Format) (e : ℕ) (image : List ℕ) (start : ℕ) (rs :
   pub closing : List ℕ
   pub rest : List ℕ
   pub closes : grammar f .Closing closing
+  pub takes : grammar f .Takes (length (flat rs))
   pub is : image ≡ imageFrom (shape f) (flat rs) closing rest
   pub starts : start ≡ length (shape f .header (length (flat rs)))
   pub frames : Frames (shape f) (grammar f) false rs
@@ -173,11 +183,11 @@ never-bad e = let z : _≡_ {A = ℕ} 0 1 = cc in absurd (omega arith)
 
 module _ (f : Format) (L : Laws (shape f) (grammar f)) where
   -- an image that is so made, of lawful and complete entries, is accepted with these entries
-  pub made-accepted : (e : ℕ) (rs : List Raw) (z t : List ℕ) → grammar f .Closing z → Frames (shape f) (grammar f) false rs →
+  pub made-accepted : (e : ℕ) (rs : List Raw) (z t : List ℕ) → grammar f .Closing z → grammar f .Takes (length (flat rs)) → Frames (shape f) (grammar f) false rs →
       Lawful (shape f) e [] (map content rs) → complete (shape f .required) (codesOf rs) ≡ true →
       readAs f e (imageFrom (shape f) (flat rs) z t) ≡ accepted f (length (shape f .header (length (flat rs)))) rs
-  made-accepted e rs z t cl fs lw cm =
-      rw (made-read f L e rs z t cl fs, lawful-judge (shape f) e [] rs (length (shape f .header (length (flat rs)))) lw, cm)
+  made-accepted e rs z t cl fits fs lw cm =
+      rw (made-read f L e rs z t cl fits fs, lawful-judge (shape f) e [] rs (length (shape f .header (length (flat rs)))) lw, cm)
 
   -- an image that is accepted is so made
   pub accepted-made : (e : ℕ) (image : List ℕ) (f′ : Format) (start : ℕ) (rs : List Raw) → readAs f e image ≡ accepted f′ start rs → (f′ ≡ f) × Accepts f e image start rs
@@ -196,6 +206,7 @@ module _ (f : Format) (L : Laws (shape f) (grammar f)) where
                   closing = x .closing;
                   rest = x .rest;
                   closes = x .closes;
+                  takes = x .takes;
                   is = x .is;
                   starts = x .starts;
                   frames = x .frames;

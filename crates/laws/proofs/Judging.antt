@@ -8,10 +8,10 @@ use native.Mathlib.Omega.{arith}
 use lib.Dec.{leb}
 use borrow.Author.Tests.{leb-true, le-leb}
 use Rattle.layout.specs.Bytes.{if}
-use Rattle.layout.specs.Shape.{Shape, Label}
+use Rattle.layout.specs.Shape.{Shape, Label, Judged, fine, faulty}
 use Rattle.layout.specs.Editions.{Since, from, never, since, reached, names}
 use Rattle.layout.specs.Walk.{Raw, Content, content, labelOf}
-use Rattle.layout.specs.Read.{same, seenBefore, readerRule, fault, Judged, fine, faulty, orElse, judge}
+use Rattle.layout.specs.Read.{same, seenBefore, readerRule, fault, orElse, judge}
 use Rattle.laws.specs.Contents.{valued, replaced}
 use Rattle.laws.specs.Grammar.{Ruled, New, Each, none, also, Lawful, noMore, andThen}
 use Rattle.laws.proofs.Lists.{each-map, each-every}

@@ -1,5 +1,6 @@
 pub mod Calls
 pub mod Choices
+pub mod Coded
 pub mod Editing
 pub mod Fboss
 pub mod Format
@@ -12,6 +13,7 @@ pub mod Lists
 pub mod Marks
 pub mod Names
 pub mod OneByte
+pub mod Onie
 pub mod Passes
 pub mod Records
 pub mod Rooms

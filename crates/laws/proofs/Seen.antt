@@ -7,12 +7,13 @@ use mathlib.Core.Bool.{Bool, true, false, _&&_}
 use lib.Dec.{eqb}
 use borrow.Author.Tests.{ne-eqb}
 use Rattle.layout.specs.declared.Format.{Format}
-use Rattle.layout.specs.declared.Format.the-variants.{Fboss, Vpd, Tiny}
+use Rattle.layout.specs.declared.Format.the-variants.{Fboss, Vpd, Tiny, Onie}
 use Rattle.layout.specs.Bytes.{if, oneOf}
 use Rattle.layout.specs.Shape.{Shape, Label}
 use Rattle.layout.specs.Fboss.{fboss}
 use Rattle.layout.specs.Vpd.{vpd, vpdTwice}
 use Rattle.layout.specs.Tiny.{tiny}
+use Rattle.layout.specs.Onie.{onie}
 use Rattle.layout.specs.Editions.{shape}
 use Rattle.layout.specs.Read.{seenBefore}
 use Rattle.laws.specs.Marked.{marked}
@@ -21,6 +22,10 @@ use Rattle.laws.proofs.Marks.{Marks}
 and-true : (b : Bool) → b && true ≡ b
 and-true true = refl
 and-true false = refl
+
+and-false : (b : Bool) → b && false ≡ false
+and-false true = refl
+and-false false = refl
 
 abbrev pub labelCodes : List Label → List ℕ
 labelCodes [] = []
@@ -49,6 +54,21 @@ tiny-always c key b = refl
 pub vpd-always : (c : ℕ) → (c ≡ 1 → ⊥) → AlwaysTwice Vpd c
 unfolding AlwaysTwice vpd vpdTwice
 vpd-always c n key b = rw (ne-eqb c 1 n)
+
+pub onie-always : (c : ℕ) → (c ≡ 0xFD → ⊥) → AlwaysTwice Onie c
+unfolding AlwaysTwice onie
+onie-always c n key b = rw (ne-eqb c 0xFD n)
+
+-- where two entries of a code never come twice, none is seen
+unseen-codes : (S : Shape) (a : Label) (seen : List Label) → ((b : Label) → S .twice a b ≡ false) → seenBefore S seen a ≡ false
+unfolding seenBefore
+unseen-codes S a [] t = refl
+unseen-codes S a (b ∷ bs) t = rw (t b, and-false (eqb (a .code) (b .code))) (unseen-codes S a bs t)
+
+-- an ONIE FDh never comes twice
+pub vendor-unseen : (key : List ℕ) (seen : List Label) → seenBefore (shape Onie) seen (record { code = 0xFD; key = key }) ≡ false
+unfolding onie
+vendor-unseen key seen = unseen-codes (shape Onie) (record { code = 0xFD; key = key }) seen (λ b. refl)
 
 -- a marked code is one that was seen
 pub marked-seen : (f : Format) (c : ℕ) (key : List ℕ) (seen : List Label) (marks : List ℕ) → AlwaysTwice f c → c < 256 → Marks (labelCodes seen) marks →

@@ -92,6 +92,7 @@ holds entries x t =
       opened = rw (le-ltb (length image) 3 (omega arith), le-leb 4 total (omega arith), le-leb total (length image) (omega (arith, length-append entries (x ∷ t))));
       room = take-at entries (x ∷ t) (total - 1 - 3) (omega arith) ∙ sym (append-nil entries);
       ends = λ b. refl;
+      filled = refl;
     }
 
 -- Tiny version 2 reads what its grammar writes, and writes what it reads.
@@ -123,11 +124,12 @@ tiny-laws =
       key-made = λ c key r. r;
       closing-made = refl;
       closing-length = λ z is. ap length is;
-      room-made = λ entries z t is. rw is (holds entries _ t);
-      room-sound = λ b image entries rest start end o room ends.
+      takes-made = λ entries le. tt;
+      room-made = λ entries z t is fits. rw is (holds entries _ t);
+      room-sound = λ b image entries rest start end o room ends filled.
           let r = rw o at (rooms image) in
           let n = getD image 2 0 - 1 - 3 in
           let front : take n (drop 3 image) ≡ entries = rw (r .0, r .1, rw ends at (heads b rest), append-nil) at room in
           let size : length entries + 4 ≡ getD image 2 0 = rw (← front, length-take-le n (drop 3 image) (omega (arith, length-drop 3 image))) (omega arith) in
-          (r .0, record { closing = []; rest = drop n (drop 3 image); closes = refl; is = cc (take-append-drop n (drop 3 image)) });
+          (r .0, record { closing = []; rest = drop n (drop 3 image); closes = refl; takes = tt; is = cc (take-append-drop n (drop 3 image)) });
     }

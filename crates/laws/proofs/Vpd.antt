@@ -79,7 +79,7 @@ head-reads [] = tt
 head-reads (c ∷ t) = go (eqb c 0x00) (eqb c 0xFF) (eqb c 0x01) (eqb c 0xFE) refl refl refl refl
   where
     closed : vpdGrammar .Closing (c ∷ []) → Front (c ∷ t) (vpdHead (c ∷ t))
-    closed z = rw (closing-ends (c ∷ []) t z) (record { closing = c ∷ []; rest = t; closes = z; is = refl })
+    closed z = rw (closing-ends (c ∷ []) t z) (record { closing = c ∷ []; rest = t; closes = z; takes = tt; is = refl })
 
     fits : {n j : ℕ} → Typed c → groups 4 0 1 (c ∷ t) ≡ Reads n j → (b : Bool) → leb (j + n) (suc (length t)) ≡ b →
         Front (c ∷ t) (if b (λ _. Opens (record { code = c; key = j; klen = n; at = j + n })) (λ _. Wrong 5))
@@ -156,18 +156,20 @@ vpd-laws =
       key-made = λ c key h. and-eq-true-iff (vpdReaderKey c key) (if (eqb c 0x01) (λ _. all keyByte key) (λ _. true)) .0 (sym (writer-key c key) ∙ h) .0;
       closing-made = inl refl;
       closing-length = λ z. ⊎-elim (λ e. ap length e) (λ e. ap length e);
-      room-made = λ entries z t closing.
+      takes-made = λ entries le. tt;
+      room-made = λ entries z t closing fits.
           record {
             end = length (entries ++ (z ++ t));
             rest = z ++ t;
             opened = refl;
             room = take-all (length (entries ++ (z ++ t)) - 0) (entries ++ (z ++ t)) (omega arith);
             ends = λ b. closing-ends z t closing;
+            filled = refl;
           };
-      room-sound = λ b image entries rest start end o r e.
+      room-sound = λ b image entries rest start end o r e filled.
           let from : start ≡ 0 = cc in
           let to : end ≡ length image = cc in
           let w : Wholly vpd vpdGrammar rest [] = rw e at (head-reads rest) in
           let all = take-all (length image - 0) image (omega arith) in
-          (from, record { closing = w .closing; rest = w .rest; closes = w .closes; is = cc (all, rw (from, to) at r, w .is) });
+          (from, record { closing = w .closing; rest = w .rest; closes = w .closes; takes = tt; is = cc (all, rw (from, to) at r, w .is) });
     }

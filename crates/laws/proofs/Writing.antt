@@ -8,10 +8,10 @@ use native.Mathlib.Omega.{arith}
 use lib.ListN.{length, length-append}
 use Rattle.layout.specs.declared.Field.{Field}
 use Rattle.layout.specs.Bytes.{if}
-use Rattle.layout.specs.Shape.{Shape, Label}
+use Rattle.layout.specs.Shape.{Shape, Label, Judged, fine, faulty}
 use Rattle.layout.specs.Editions.{names}
 use Rattle.layout.specs.Walk.{Raw, Content, content, labelOf, flat}
-use Rattle.layout.specs.Read.{limit, same, seenBefore, readerRule, Judged, fine, faulty, orElse, complete, codesOf}
+use Rattle.layout.specs.Read.{limit, same, seenBefore, readerRule, orElse, complete, codesOf}
 use Rattle.layout.specs.Write.{fieldKey, partsInside, fieldContent, writerRule, fieldFault, judgeFields, contentsOf, contentCodes, entryBytes, entriesBytes, body, imageOf}
 use Rattle.laws.specs.Grammar.{Grammar, Each, none, also, Lawful, noMore, andThen}
 use Rattle.laws.proofs.Format.{Laws}

@@ -1,6 +1,6 @@
--- The published rules as a grammar: which bytes an image of each format is made of (01, "FBOSS v5", "VPD 2.0", "Tiny version 2").
--- Nothing here reads: a list of bytes is made so, or it is not. Said apart from the reader's definitions: what opens an entry, which bytes say a length, what closes the entries, and that entries
--- stand one after another without gaps. Shared with them: the header, the check and what may follow an entry (`Shape`), the names and rules (`names`, `readerRule`, `same`), what is required, and the limit.
+-- The published rules as a grammar: which bytes an image of each format is made of (01, "FBOSS v5", "VPD 2.0", "Tiny version 2"; 02, "ONIE images and edition 3").
+-- Nothing here reads: a list of bytes is made so, or it is not. Said apart from the reader's definitions: what opens an entry, which bytes say a length, what closes the entries, how many bytes they may
+-- have, and that entries stand one after another without gaps. Shared with them: the header, the check and what may follow an entry (`Shape`), the names and rules (`names`, `readerRule`, `same`), what is required, and the limit.
 -- Those are said apart in crates/promises/specs: Names, Rules, Written (header and check as they are written), Writing (what comes again, what is required), Asked (the limit).
 -- Assumes nothing.
 use Prim.Native.Nat.{ℕ, zero, suc, _+_, _*_, _-_, _/_, _≤_, _<_}
@@ -10,7 +10,7 @@ use mathlib.Core.Logic.{_⊎_}
 use mathlib.Core.Bool.{Bool, true, false}
 use lib.ListN.{length}
 use Rattle.layout.specs.declared.Format.{Format}
-use Rattle.layout.specs.declared.Format.the-variants.{Fboss, Vpd, Tiny}
+use Rattle.layout.specs.declared.Format.the-variants.{Fboss, Vpd, Tiny, Onie}
 use Rattle.layout.specs.Shape.{Shape, Label}
 use Rattle.layout.specs.Editions.{shape, names}
 use Rattle.layout.specs.Walk.{Content, labelOf}
@@ -24,23 +24,34 @@ pub record Grammar : Type 1 where
   pub Says : ℕ → List ℕ → ℕ → Type 0
   -- these bytes close the entries
   pub Closing : List ℕ → Type 0
+  -- the entries of an image may have so many bytes
+  pub Takes : ℕ → Type 0
 
--- ---- FBOSS v5: one code byte, one length byte, the value; code 250 with length 2 closes
+-- ---- FBOSS v5 and ONIE: one code byte, one length byte, the value; one code with one length closes, and no entry has it; 0 and 255 are no codes
 
-pub record FbossOpening (bytes : List ℕ) (code : ℕ) (key : List ℕ) : Type 0 where
+pub record CodedOpening (end : ℕ) (bytes : List ℕ) (code : ℕ) (key : List ℕ) : Type 0 where
   pub is : bytes ≡ code ∷ []
   pub keyless : key ≡ []
   pub not0 : code ≡ 0 → ⊥
   pub not255 : code ≡ 255 → ⊥
-  pub not250 : code ≡ 250 → ⊥
+  pub notEnd : code ≡ end → ⊥
 
-abbrev pub fbossGrammar : Grammar
-fbossGrammar =
+abbrev pub codedGrammar : (end size : ℕ) → (ℕ → Type 0) → Grammar
+codedGrammar end size takes =
     record {
-      Opening = FbossOpening;
+      Opening = CodedOpening end;
       Says = λ code bytes n. bytes ≡ n ∷ [];
-      Closing = λ bytes. bytes ≡ 250 ∷ 2 ∷ [];
+      Closing = λ bytes. bytes ≡ end ∷ size ∷ [];
+      Takes = takes;
     }
+
+-- code 250 with length 2 closes
+abbrev pub fbossGrammar : Grammar
+fbossGrammar = codedGrammar 250 2 (λ n. Unit {0})
+
+-- code FEh with length 4 closes; the entries, FE 04 and the check have at most 2,048 bytes
+abbrev pub onieGrammar : Grammar
+onieGrammar = codedGrammar 0xFE 4 (λ n. n + 6 ≤ 2048)
 
 -- ---- VPD 2.0: type, key length, key, value length, value; 00h or FFh closes
 
@@ -61,6 +72,7 @@ vpdGrammar =
       Opening = VpdOpening;
       Says = λ code bytes n. LengthBytes 4 0 bytes n;
       Closing = λ bytes. (bytes ≡ 0x00 ∷ []) ⊎ (bytes ≡ 0xFF ∷ []);
+      Takes = λ n. Unit {0};
     }
 
 -- ---- Tiny version 2: a tag whose high four bits are the length of the value, or a length byte after it; nothing closes
@@ -79,12 +91,14 @@ tinyGrammar =
       Opening = TinyOpening;
       Says = TinySays;
       Closing = λ bytes. bytes ≡ [];
+      Takes = λ n. Unit {0};
     }
 
 abbrev pub grammar : Format → Grammar
 grammar Fboss = fbossGrammar
 grammar Vpd = vpdGrammar
 grammar Tiny = tinyGrammar
+grammar Onie = onieGrammar
 
 -- ---- any format
 
@@ -135,6 +149,7 @@ pub record Published (f : Format) (e : ℕ) (image : List ℕ) (cs : List Conten
   pub headed : header ≡ shape f .header (length entries)
   pub is : image ≡ header ++ (entries ++ (closing ++ (shape f .check (header ++ entries) ++ rest)))
   pub closes : grammar f .Closing closing
+  pub takes : grammar f .Takes (length entries)
   pub made : Entries (grammar f) (shape f) false entries cs
   pub lawful : Lawful (shape f) e [] cs
   pub required : Each (λ code. Among code cs) (shape f .required)

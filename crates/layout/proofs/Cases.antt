@@ -9,7 +9,7 @@ use mathlib.Core.Path.{_≡_, refl}
 use mathlib.Core.List.{List, [], _∷_, _++_, map}
 use lib.ListN.{length, replicate}
 use lib.Dec.{leb, eqb}
-use Rattle.crc.specs.Crc.{check16Of, check8Of, checkOf, byteIn, singleBit}
+use Rattle.crc.specs.Crc.{check16Of, check8Of, check32Of, mirror, checkOf, byteIn, singleBit}
 use Rattle.layout.specs.declared.Length.{Length}
 use Rattle.layout.specs.declared.Length.the-variants.{Reads}
 use Rattle.layout.specs.declared.Identity.{Identity}
@@ -27,10 +27,11 @@ use Rattle.layout.specs.declared.Located.the-variants.{Nowhere}
 use Rattle.layout.specs.declared.Made.{Made}
 use Rattle.layout.specs.declared.Made.the-variants.{Wrote, Unwritten}
 use Rattle.layout.specs.Bytes.{if, all, oneOf, sameBytes, part, highFirst, place, stringNumber, partAt, refusal}
-use Rattle.layout.specs.Shape.{next}
-use Rattle.layout.specs.Fboss.{fboss, fbossOpened, fbossHead, dateRule, fbossRule, fbossReading}
+use Rattle.layout.specs.Shape.{next, codedHead}
+use Rattle.layout.specs.Fboss.{fboss, fbossOpened, dateRule, fbossRule, fbossReading}
 use Rattle.layout.specs.Vpd.{vpd, groups, vpdHead, shortest, vpdReaderKey, vpdWriterKey, vpdRule, vpdTwice}
 use Rattle.layout.specs.Tiny.{tiny, tinyOpened, tinyHead, tinyLength, tinyRule, tinyReading}
+use Rattle.layout.specs.Onie.{onie, onieOpened, onieFilled, onieCheck, formed, onieRule, onieReading}
 use Rattle.layout.specs.Editions.{chosen, sinceIn, names, kind}
 use Rattle.layout.specs.Walk.{Content, content, walks, walk}
 use Rattle.layout.specs.Read.{sealed, seenBefore, readerRule, fault, judge, complete, Read, accepted, refused, readAs, readImage}
@@ -115,6 +116,22 @@ threeBytes = hex "FE 01 41 03 01 02 03 00"
 -- 01's Tiny image without entries
 abbrev pub noTags : List ℕ
 noTags = hex "56 02 04 6F"
+
+-- ONIE's header, TlvInfo and a zero, 01h, and the declared length d, before these bytes
+abbrev pub headed : ℕ → List ℕ → List ℕ
+headed d s = hex "54 6C 76 49 6E 66 6F 00 01" ++ two d ++ s
+
+-- an ONIE image that declares the length d, of these bytes of entries, with this check stored
+abbrev pub onieAs : ℕ → List ℕ → List ℕ → List ℕ
+onieAs d s check = headed d (s ++ hex "FE 04" ++ check)
+
+-- an ONIE image of these bytes of entries, which declares the length that it has
+abbrev pub onieOf : List ℕ → List ℕ → List ℕ
+onieOf s check = onieAs (length s + 6) s check
+
+-- the ONIE image without entries
+abbrev pub noEntries : List ℕ
+noEntries = hex "54 6C 76 49 6E 66 6F 00 01 00 06 FE 04 D4 43 1C 18"
 
 -- ---- records, fields and answers, in short
 
@@ -203,15 +220,15 @@ contentsRead (refused r) = []
 
 -- a question, with the answer that it must have
 pub data Case : Type 0 where
-  -- the check of 16 or 8 bits over bytes
-  check16 check8 : (s : List ℕ) (answer : ℕ) → Case
+  -- the check of 16, 8 or 32 bits over bytes
+  check16 check8 check32 : (s : List ℕ) (answer : ℕ) → Case
   -- a VPD length and the place after it
   lengths : (s : List ℕ) (answer : Length) → Case
   -- the shortest bytes that say a VPD length
   shortests : (n : ℕ) (answer : List ℕ) → Case
   -- the check of an image
   checks : (format edition : ℕ) (image : List ℕ) (answer : Checked) → Case
-  -- the check of an image, alike in both editions
+  -- the check of an image, alike in editions 1 to 3
   alike : (format : ℕ) (image : List ℕ) (answer : Checked) → Case
   -- the number that a call gives, 0 where nothing is refused
   numbers : (n : ℕ) (answer : ℕ) → Case
@@ -255,7 +272,7 @@ pub data Answer : Type 0 where
   length-read : Length → Answer
   bytes : List ℕ → Answer
   checked : Checked → Answer
-  both : Checked → Checked → Answer
+  alike-checked : Checked → Checked → Checked → Answer
   listed : Listed → Answer
   records : List Entry → Answer
   looked-up : Lookup → Answer
@@ -269,20 +286,22 @@ pub data Answer : Type 0 where
 
 -- what the definitions answer
 unfoldable pub given : Case → Answer
-unfolding check16Of check8Of checkOf byteIn singleBit all oneOf sameBytes part highFirst next
-    fboss fbossOpened fbossHead dateRule fbossRule fbossReading
+unfolding check16Of check8Of check32Of mirror checkOf byteIn singleBit all oneOf sameBytes part highFirst next
+    codedHead fboss fbossOpened dateRule fbossRule fbossReading
     vpd groups vpdHead shortest vpdReaderKey vpdWriterKey vpdRule vpdTwice
     tiny tinyOpened tinyHead tinyLength tinyRule tinyReading
+    onie onieOpened onieFilled onieCheck formed onieRule onieReading
     chosen sinceIn names kind content walks walk sealed seenBefore readerRule fault judge complete readAs readImage
     entryOf entriesOf entriesIn checkImage listEntries nth entryAt valueAt stepFrom stringIn poolString stringAt toldReading
     fields fieldsIn writerRule fieldFault judgeFields entryBytes entriesBytes imageOf put writeAs writeImage
     revalued editedBytes editRule mayEdit editEntry
 given (check16 s answer) = number (check16Of s)
 given (check8 s answer) = number (check8Of 0 s)
+given (check32 s answer) = number (check32Of s)
 given (lengths s answer) = length-read (groups 4 0 0 s)
 given (shortests n answer) = bytes (shortest n)
 given (checks f e image answer) = checked (checkImage f e image)
-given (alike f image answer) = both (checkImage f 1 image) (checkImage f 2 image)
+given (alike f image answer) = alike-checked (checkImage f 1 image) (checkImage f 2 image) (checkImage f 3 image)
 given (numbers n answer) = number n
 given (sweeps bound question n answer) = bytes (those bound 0 question n)
 given (lists f e image rs) = listed (listEntries f e image (replicate (length rs) blank))
@@ -307,10 +326,11 @@ given (shows image x answer) = bytes (bytesAt image x)
 abbrev pub wanted : Case → Answer
 wanted (check16 s answer) = number answer
 wanted (check8 s answer) = number answer
+wanted (check32 s answer) = number answer
 wanted (lengths s answer) = length-read answer
 wanted (shortests n answer) = bytes answer
 wanted (checks f e image answer) = checked answer
-wanted (alike f image answer) = both answer answer
+wanted (alike f image answer) = alike-checked answer answer answer
 wanted (numbers n answer) = number answer
 wanted (sweeps bound question n answer) = bytes answer
 wanted (lists f e image rs) = listed (record { answer = Accepted (length rs); records = rs })
@@ -331,7 +351,7 @@ wanted (tells t answer) = said answer
 wanted (settles x answer) = settled answer
 wanted (shows image x answer) = bytes answer
 
--- ---- the cases that 01 marks P, each in both editions where there is one
+-- ---- the cases that 01 marks P, each in editions 1 to 3 where there is one
 
 abbrev pub cases : List Case
 cases =
@@ -348,23 +368,28 @@ cases =
     ∷ alike 2 (hex "01 03 53 4B 55 02 41 37 00") (Accepted 1)
     ∷ lists 2 1 sku (keyed 0x01 513 0 2 3 6 2 ∷ [])
     ∷ lists 2 2 sku (keyed 0x01 513 0 2 3 6 2 ∷ [])
+    ∷ lists 2 3 sku (keyed 0x01 513 0 2 3 6 2 ∷ [])
     -- P: 01 00 00 00: 7 at 0. 01 80 80 80 80: 6 at 0. 01 80 01 41 00 00: accepted, value at 5, length 0
     ∷ alike 2 (hex "01 00 00 00") (refuses 7 0)
     ∷ alike 2 (hex "01 80 80 80 80") (refuses 6 0)
     ∷ alike 2 (hex "01 80 01 41 00 00") (Accepted 1)
     ∷ finds 2 1 (hex "01 80 01 41 00 00") 0 (Found (keyed 0x01 513 0 3 1 5 0))
     ∷ finds 2 2 (hex "01 80 01 41 00 00") 0 (Found (keyed 0x01 513 0 3 1 5 0))
+    ∷ finds 2 3 (hex "01 80 01 41 00 00") 0 (Found (keyed 0x01 513 0 3 1 5 0))
     -- P: 01 01 41 00 01 01 41 00 00: 8 at 4
     ∷ alike 2 (hex "01 01 41 00 01 01 41 00 00") (refuses 8 4)
-    -- P: FE 01 41 03 01 02 03 00: edition 1 accepts, kind 0; edition 2 gives 7 at 0
+    -- P: FE 01 41 03 01 02 03 00: edition 1 accepts, kind 0; edition 2 gives 7 at 0, and so does edition 3
     ∷ checks 2 1 (hex "FE 01 41 03 01 02 03 00") (Accepted 1)
     ∷ finds 2 1 (hex "FE 01 41 03 01 02 03 00") 0 (Found (keyed 0xFE 0 0 2 1 4 3))
     ∷ checks 2 2 (hex "FE 01 41 03 01 02 03 00") (refuses 7 0)
+    ∷ checks 2 3 (hex "FE 01 41 03 01 02 03 00") (refuses 7 0)
     ∷ finds 2 2 (hex "FE 01 41 03 01 02 03 00") 0 (misses 7 0)
+    ∷ finds 2 3 (hex "FE 01 41 03 01 02 03 00") 0 (misses 7 0)
     -- P: Tiny 56 02 04 6F: no entries. Last byte 6E: 10 at 3. 56 02 03: 5 at 2
     ∷ alike 3 (hex "56 02 04 6F") (Accepted 0)
     ∷ lists 3 1 (hex "56 02 04 6F") []
     ∷ lists 3 2 (hex "56 02 04 6F") []
+    ∷ lists 3 3 (hex "56 02 04 6F") []
     ∷ alike 3 (hex "56 02 04 6E") (refuses 10 3)
     ∷ alike 3 (hex "56 02 03") (refuses 5 2)
     ∷ []

@@ -52,15 +52,25 @@ cases =
     ∷ edits 3 1 batchAndPool 1 (hex "C1") (replicate 17 7) (Wrote 16) (hex "56 02 10 80 00 01 02 03 04 05 34 12 01 01 C1 5F" ++ hex "FF")
     ∷ edits 3 2 batchAndPool 0 (hex "01 02 63 63 05 06 0F 27") (replicate 19 7) (Wrote 19) (hex "56 02 13 80 01 02 63 63 05 06 0F 27 01 04 41 C2 C3 44 AF")
     ∷ edits 3 1 allTags 1 (hex "F1") (replicate 24 7) (Wrote 24) (hex "56 02 18 10 02 11 F1 60 02 00 00 00 01 FF 61 00 01 02 03 04 05 01 00 45")
-    -- edition 2 reads what edition 1 has edited
+    -- edition 3 edits as edition 2 does
+    ∷ edits 1 3 withBlock 5 (hex "01 02 03 04 05 06 07 08") (replicate 33 7) (Wrote 33) (boardWith 17 (hex "01 02 03 04 05 06 07 08") 0x61A5)
+    ∷ edits 2 3 skuAndFeh 1 (hex "09 08 07 06") (replicate 20 7) (Wrote 18) (hex "01 03 53 4B 55 02 41 37 FE 80 01 41 04 09 08 07 06 00 FF FF")
+    ∷ edits 3 3 batchAndPool 0 (hex "01 02 63 63 05 06 0F 27") (replicate 19 7) (Wrote 19) (hex "56 02 13 80 01 02 63 63 05 06 0F 27 01 04 41 C2 C3 44 AF")
+    ∷ unedits 1 3 withBlock 5 (hex "01 02 03 04 05 06 07") 40 (refusal 7 19)
+    ∷ unedits 2 3 skuAndFeh 1 (text "B") 0 (refusal 7 8)
+    ∷ unedits 3 3 batchAndPool 0 (hex "00 00 00 00 00 00 10 27") 30 (refusal 7 3)
+    -- later editions read what edition 1 has edited
+    ∷ checks 1 3 (fbossOf (hex "01 01 41 08 01 05 09 01 00 0A 01 01 0B 03 58 59 5A 11 08 02 00 00 00 00 01 00 08") 0xF626 ++ hex "FF") (Accepted 6)
     ∷ checks 1 2 (fbossOf (hex "01 01 41 08 01 05 09 01 00 0A 01 01 0B 03 58 59 5A 11 08 02 00 00 00 00 01 00 08") 0xF626 ++ hex "FF") (Accepted 6)
     ∷ alike 2 (hex "01 03 53 4B 55 01 42 FE 80 01 41 04 01 02 03 04 00") (Accepted 2)
     ∷ alike 3 (hex "56 02 10 80 00 01 02 03 04 05 34 12 01 01 C1 5F" ++ hex "FF") (Accepted 2)
     -- ---- 16, 1 and 2, before the image's own. 2 for the image, and for the output
     ∷ unedits 0 1 sku 0 [] 3 (refusal 16 0)
-    ∷ unedits 4 9 [] 0 [] 3 (refusal 16 0)
+    ∷ unedits 5 9 [] 0 [] 3 (refusal 16 0)
+    ∷ unedits 4 9 [] 0 [] 3 (refusal 1 0)
+    ∷ unedits 4 2 [] 0 [] 3 (refusal 16 0)
     ∷ unedits 2 0 sku 0 [] 3 (refusal 1 0)
-    ∷ unedits 2 3 sku 0 [] 3 (refusal 1 0)
+    ∷ unedits 2 4 sku 0 [] 3 (refusal 1 0)
     ∷ unedits 1 1 [] 0 [] 65537 (refusal 2 0)
     ∷ unedits 1 1 [] 0 [] 65536 (refusal 3 0)
     ∷ unedits 1 1 (replicate 65537 0) 0 [] 0 (refusal 2 0)

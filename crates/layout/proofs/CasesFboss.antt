@@ -13,7 +13,7 @@ use Rattle.layout.specs.Bytes.{partAt}
 use Rattle.layout.proofs.Cases.{text, hex, run, fbossOf, five, boardWith, withBlock, bare, refuses, misses, nowhere, checking, writing, naming}
 use Rattle.layout.proofs.Cases.{Case, check16, check8, checks, alike, sweeps, lists, finds, values, steps, given, wanted}
 
--- an image with every code that edition 2 names, 1 to 20 in order: 16 entries that both editions name, and four address blocks
+-- an image with every code that edition 2 names, 1 to 20 in order: 16 entries that every edition names, and four address blocks
 abbrev pub everyCode : List ℕ
 everyCode =
     fbossOf
@@ -23,7 +23,7 @@ everyCode =
     ++ hex "11 08 01 23 45 67 89 AB 01 02 12 08 FF FF FF FF FF FF FF FF 13 08 00 00 00 00 00 01 00 00 14 08 02 00 00 00 00 00 00 0A")
     0x1B90
 
--- its first 16 records, alike in both editions
+-- its first 16 records, alike in every edition
 abbrev pub firstSixteen : List Entry
 firstSixteen =
     bare 1 257 4 6 8 Text
@@ -48,7 +48,7 @@ firstSixteen =
 abbrev pub fourUnnamed : List Entry
 fourUnnamed = bare 17 0 104 106 8 Plain ∷ bare 18 0 114 116 8 Plain ∷ bare 19 0 124 126 8 Plain ∷ bare 20 0 134 136 8 Plain ∷ []
 
--- and as edition 2 lists them
+-- and as editions 2 and 3 list them
 abbrev pub fourBlocks : List Entry
 fourBlocks =
     bare 17 273 104 106 8 (Addresses 0x0123456789AB 258)
@@ -164,6 +164,7 @@ cases =
     ∷ checks 1 2 (lone 8 (hex "05 05") 0x43F1) (refuses 7 4)
     -- address blocks have eight bytes; edition 1 does not name them
     ∷ checks 1 2 (lone 17 (hex "00 00 00 00 00 00 00") 0xF579) (refuses 7 4)
+    ∷ checks 1 3 (lone 17 (hex "00 00 00 00 00 00 00") 0xF579) (refuses 7 4)
     ∷ checks 1 1 (lone 17 (hex "00 00 00 00 00 00 00") 0xF579) (refuses 11 0)
     ∷ checks 1 2 (lone 17 (hex "00 00 00 00 00 00 00 00") 0x5EEE) (refuses 11 0)
     ∷ checks 1 2 (lone 17 (hex "00 00 00 00 00 00 00 00 00") 0x3A7E) (refuses 7 4)
@@ -192,6 +193,7 @@ cases =
     ∷ checks 1 2 (fbossOf (five ++ hex "02 01 41 63 01 00 02 01 7F") 0x803C) (refuses 7 25)
     ∷ checks 1 1 (fbossOf (five ++ hex "63 00 63 00") 0x434E) (Accepted 7)
     ∷ checks 1 1 (fbossOf (five ++ hex "12 08 00 00 00 00 00 00 00 00 12 08 00 00 00 00 00 00 00 00") 0x7786) (Accepted 7)
+    ∷ checks 1 3 (fbossOf (five ++ hex "12 08 00 00 00 00 00 00 00 00 12 08 00 00 00 00 00 00 00 00") 0x7786) (refuses 8 29)
     ∷ checks 1 2 (fbossOf (five ++ hex "12 08 00 00 00 00 00 00 00 00 12 08 00 00 00 00 00 00 00 00") 0x7786) (refuses 8 29)
     -- ---- the same rules, by writes of one field: the number 11 says that no rule is broken
     -- the bytes of text; the codes that take one byte below it, of it and above it
@@ -235,10 +237,12 @@ cases =
     -- the codes that each edition names: 13, and 14 for any other
     ∷ sweeps 300 (λ c. naming 1 1 c) 13 (run 1 16)
     ∷ sweeps 300 (λ c. naming 1 2 c) 13 (run 1 20)
+    ∷ sweeps 300 (λ c. naming 1 3 c) 13 (run 1 20)
     ∷ sweeps 30 (λ c. naming 1 1 c) 14 (0 ∷ run 17 29)
-    -- ---- the records of every code, in both editions
+    -- ---- the records of every code, in every edition
     ∷ lists 1 1 everyCode (firstSixteen ++ fourUnnamed)
     ∷ lists 1 2 everyCode (firstSixteen ++ fourBlocks)
+    ∷ lists 1 3 everyCode (firstSixteen ++ fourBlocks)
     ∷ finds 1 2 everyCode 19 (Found (bare 20 276 134 136 8 (Addresses 0x020000000000 10)))
     -- codes that no edition names, with any value
     ∷ lists 1 2 (fbossOf (five ++ hex "15 00 F9 02 00 FF FB 01 FA FE 01 02") 0x3DB3)
@@ -250,6 +254,7 @@ cases =
     ∷ finds 1 1 withBlock 3 (Found (bare 10 266 13 15 1 (Number 1)))
     ∷ finds 1 1 withBlock 5 (Found (bare 17 0 19 21 8 Plain))
     ∷ finds 1 2 withBlock 5 (Found (bare 17 273 19 21 8 (Addresses 0x020000000001 8)))
+    ∷ finds 1 3 withBlock 5 (Found (bare 17 273 19 21 8 (Addresses 0x020000000001 8)))
     ∷ finds 1 1 withBlock 6 (misses 13 0)
     ∷ finds 1 2 withBlock 6 (misses 13 0)
     ∷ finds 1 2 withBlock 4294967296 (misses 13 0)

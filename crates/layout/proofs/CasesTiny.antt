@@ -19,7 +19,7 @@ tags =
     hex "56 02 38 10 02 11 3B 60 02 00 00 00 01 FF 61 00 01 02 03 04 05 62 01 00 80 63 06 07"
     ++ hex "80 00 01 02 03 04 05 34 12 81 01 01 63 00 00 00 0F 27 25 07 08 01 04 41 C2 C3 44 E7"
 
--- its first five records, alike in both editions
+-- its first five records, alike in every edition
 abbrev pub firstFive : List Entry
 firstFive =
     bare 0x10 784 3 4 1 (Numbered (stringNumber 2))
@@ -29,7 +29,7 @@ firstFive =
     ∷ bare 0x62 866 21 22 6 (Identified (named 1 0 128 99 6 7))
     ∷ []
 
--- its last two, alike in both editions
+-- its last two, alike in every edition
 abbrev pub lastTwo : List Entry
 lastTwo = bare 0x25 0 46 47 2 Plain ∷ bare 0x01 769 49 51 4 Plain ∷ []
 
@@ -103,6 +103,7 @@ cases =
     -- 80h and 81h, which edition 1 does not name: the same, and a batch number of at most 9999, low byte first
     ∷ alike 3 (hex "56 02 0D 80 00 00 00 00 00 00 0F 27 9D") (Accepted 1)
     ∷ checks 3 2 (hex "56 02 0D 80 00 00 00 00 00 00 10 27 09") (refuses 7 3)
+    ∷ checks 3 3 (hex "56 02 0D 80 00 00 00 00 00 00 10 27 09") (refuses 7 3)
     ∷ checks 3 1 (hex "56 02 0D 80 00 00 00 00 00 00 10 27 09") (Accepted 1)
     ∷ checks 3 2 (hex "56 02 0D 81 00 00 00 00 00 00 0F 27 E4") (Accepted 1)
     ∷ checks 3 2 (hex "56 02 0D 81 00 00 00 00 00 00 10 27 70") (refuses 7 3)
@@ -145,16 +146,20 @@ cases =
     ∷ alike 3 (hex "56 02 08 12 00 12 01 20") (Accepted 2)
     ∷ checks 3 1 (hex "56 02 16 80 00 00 00 00 00 00 00 00 80 00 00 00 00 00 00 00 00 DB") (Accepted 2)
     ∷ checks 3 2 (hex "56 02 16 80 00 00 00 00 00 00 00 00 80 00 00 00 00 00 00 00 00 DB") (refuses 8 12)
+    ∷ checks 3 3 (hex "56 02 16 80 00 00 00 00 00 00 00 00 80 00 00 00 00 00 00 00 00 DB") (refuses 8 12)
     ∷ checks 3 2 (hex "56 02 16 80 00 00 00 00 00 00 00 00 81 00 00 00 00 00 00 00 00 A2") (Accepted 2)
     -- 7 before 8
     ∷ alike 3 (hex "56 02 12 61 00 00 00 00 00 00 61 00 00 00 64 00 00 EE") (refuses 7 10)
     -- ---- the tags that each edition names: 13, and 14 for any other
     ∷ sweeps 300 (λ c. naming 3 1 c) 13 (0x01 ∷ 0x10 ∷ 0x11 ∷ 0x60 ∷ 0x61 ∷ 0x62 ∷ [])
     ∷ sweeps 300 (λ c. naming 3 2 c) 13 (0x01 ∷ 0x10 ∷ 0x11 ∷ 0x60 ∷ 0x61 ∷ 0x62 ∷ 0x80 ∷ 0x81 ∷ [])
+    ∷ sweeps 300 (λ c. naming 3 3 c) 13 (0x01 ∷ 0x10 ∷ 0x11 ∷ 0x60 ∷ 0x61 ∷ 0x62 ∷ 0x80 ∷ 0x81 ∷ [])
     ∷ sweeps 140 (λ c. naming 3 1 c) 14 (0x00 ∷ run 0x02 0x0F ++ run 0x12 0x5F ++ run 0x63 139)
-    -- ---- the records of every tag, in both editions
+    -- ---- the records of every tag, in every edition
     ∷ lists 3 1 tags (firstFive ++ (bare 0x80 0 28 29 8 Plain ∷ bare 0x81 0 37 38 8 Plain ∷ lastTwo))
     ∷ lists 3 2 tags
+    (firstFive ++ (bare 0x80 896 28 29 8 (Batched (named 0 1 2 3 4 5) 4660) ∷ bare 0x81 897 37 38 8 (Batched (named 1 1 99 0 0 0) 9999) ∷ lastTwo))
+    ∷ lists 3 3 tags
     (firstFive ++ (bare 0x80 896 28 29 8 (Batched (named 0 1 2 3 4 5) 4660) ∷ bare 0x81 897 37 38 8 (Batched (named 1 1 99 0 0 0) 9999) ∷ lastTwo))
     ∷ entries 3 1 tags (firstFive ++ (bare 0x80 0 28 29 8 Plain ∷ bare 0x81 0 37 38 8 Plain ∷ lastTwo))
     -- tags on both sides of the named ones: kind 0
@@ -200,6 +205,7 @@ cases =
     ∷ strings 3 2 tags 0 (At (partAt 51 2)) (hex "41 C2")
     ∷ strings 3 1 tags 1 (At (partAt 53 1)) (hex "C3")
     ∷ strings 3 2 tags 1 (At (partAt 53 1)) (hex "C3")
+    ∷ strings 3 3 tags 1 (At (partAt 53 1)) (hex "C3")
     ∷ strings 3 1 tags 2 (nowhere 15 0) []
     ∷ strings 3 2 tags 3 (nowhere 15 0) []
     -- a top bit on: 80h and FFh end a string, 7Fh and 00h do not
@@ -216,6 +222,10 @@ cases =
     ∷ strings 1 9 [] 0 (nowhere 16 0) []
     ∷ strings 2 1 (hex "00") 0 (nowhere 16 0) []
     ∷ strings 4 1 noTags 0 (nowhere 16 0) []
+    ∷ strings 4 3 noTags 0 (nowhere 16 0) []
+    ∷ strings 4 9 noTags 0 (nowhere 16 0) []
+    ∷ strings 5 9 noTags 0 (nowhere 16 0) []
+    ∷ strings 3 4 noTags 0 (nowhere 1 0) []
     ∷ strings 3 0 noTags 0 (nowhere 1 0) []
     ∷ strings 3 9 (hex "56") 0 (nowhere 1 0) []
     ∷ strings 3 1 (hex "56 02 05 00 00") 0 (nowhere 6 3) []

@@ -119,6 +119,7 @@ cases =
     ∷ alike 2 (labRack ++ hex "00") (Accepted 1)
     ∷ lists 2 1 twoNames (keyed 0x01 513 0 2 8 11 2 ∷ keyed 0x01 513 13 16 2 20 1 ∷ [])
     ∷ lists 2 2 twoNames (keyed 0x01 513 0 2 8 11 2 ∷ keyed 0x01 513 13 16 2 20 1 ∷ [])
+    ∷ lists 2 3 twoNames (keyed 0x01 513 0 2 8 11 2 ∷ keyed 0x01 513 13 16 2 20 1 ∷ [])
     ∷ entries 2 2 twoNames (keyed 0x01 513 0 2 8 11 2 ∷ keyed 0x01 513 13 16 2 20 1 ∷ [])
     ∷ finds 2 1 twoNames 0 (Found (keyed 0x01 513 0 2 8 11 2))
     ∷ finds 2 2 twoNames 1 (Found (keyed 0x01 513 13 16 2 20 1))
@@ -137,6 +138,7 @@ cases =
     ∷ checks 2 2 (hex "FE 01 41 04 01 02 03 04 00") (Accepted 1)
     ∷ sweeps 10 (λ n. checking 2 2 (feh n)) 0 (4 ∷ [])
     ∷ sweeps 10 (λ n. checking 2 2 (feh n)) 7 (run 0 3 ++ run 5 9)
+    ∷ sweeps 10 (λ n. checking 2 3 (feh n)) 7 (run 0 3 ++ run 5 9)
     ∷ sweeps 10 (λ n. checking 2 1 (feh n)) 0 (run 0 9)
     ∷ sweeps 10 (λ n. writing 2 2 0xFE (replicate n 0)) 12 (4 ∷ [])
     ∷ checks 2 2 (hex "01 01 41 00 FE 00 03 01 02 03 00") (refuses 7 4)
@@ -156,6 +158,7 @@ cases =
     ∷ alike 2 (hex "01 02 41 42 00 01 02 43 42 00 00") (Accepted 2)
     ∷ checks 2 1 (hex "FE 00 04 00 00 00 00 FE 01 41 04 00 00 00 00 00") (Accepted 2)
     ∷ checks 2 2 (hex "FE 00 04 00 00 00 00 FE 01 41 04 00 00 00 00 00") (refuses 8 7)
+    ∷ checks 2 3 (hex "FE 00 04 00 00 00 00 FE 01 41 04 00 00 00 00 00") (refuses 8 7)
     ∷ alike 2 (hex "FE 01 41 04 00 00 00 00 01 01 41 00 00") (Accepted 2)
     ∷ alike 2 (hex "01 01 41 00 FE 01 41 04 00 00 00 00 00") (Accepted 2)
     -- 7 before 8
@@ -166,10 +169,12 @@ cases =
     -- ---- the types that each edition names: 13, and 14 for any other
     ∷ sweeps 300 (λ c. naming 2 1 c) 13 (0x01 ∷ [])
     ∷ sweeps 300 (λ c. naming 2 2 c) 13 (0x01 ∷ 0xFE ∷ [])
+    ∷ sweeps 300 (λ c. naming 2 3 c) 13 (0x01 ∷ 0xFE ∷ [])
     ∷ sweeps 300 (λ c. naming 2 2 c) 14 (0x00 ∷ run 0x02 0xFD ++ run 0xFF 299)
-    -- ---- records, in both editions. An FEh has its key at its own place, an empty one too
+    -- ---- records, in every edition. An FEh has its key at its own place, an empty one too
     ∷ lists 2 1 threeEntries (keyed 0x01 513 0 2 3 6 2 ∷ keyed 0xFE 0 8 11 1 13 4 ∷ keyed 0x01 513 17 19 1 22 0 ∷ [])
     ∷ lists 2 2 threeEntries (keyed 0x01 513 0 2 3 6 2 ∷ keyed 0xFE 766 8 11 1 13 4 ∷ keyed 0x01 513 17 19 1 22 0 ∷ [])
+    ∷ lists 2 3 threeEntries (keyed 0x01 513 0 2 3 6 2 ∷ keyed 0xFE 766 8 11 1 13 4 ∷ keyed 0x01 513 17 19 1 22 0 ∷ [])
     ∷ entries 2 1 threeEntries (keyed 0x01 513 0 2 3 6 2 ∷ keyed 0xFE 0 8 11 1 13 4 ∷ keyed 0x01 513 17 19 1 22 0 ∷ [])
     ∷ entries 2 2 threeEntries (keyed 0x01 513 0 2 3 6 2 ∷ keyed 0xFE 766 8 11 1 13 4 ∷ keyed 0x01 513 17 19 1 22 0 ∷ [])
     ∷ entries 2 2 threeBytes []

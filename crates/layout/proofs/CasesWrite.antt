@@ -61,9 +61,11 @@ cases =
     ∷ unwrites 1 1 (field 1 0 1 ∷ field 8 2 1 ∷ field 9 3 1 ∷ field 10 4 1 ∷ []) lent 0 (refusal 11 0)
     -- ---- 16, 1 and 2, before any field
     ∷ unwrites 0 1 (field 99 9 9 ∷ []) [] 3 (refusal 16 0)
-    ∷ unwrites 4 9 (field 99 9 9 ∷ []) [] 3 (refusal 16 0)
+    ∷ unwrites 5 9 (field 99 9 9 ∷ []) [] 3 (refusal 16 0)
+    ∷ unwrites 4 9 (field 99 9 9 ∷ []) [] 3 (refusal 1 0)
+    ∷ unwrites 4 2 (field 99 9 9 ∷ []) [] 3 (refusal 16 0)
     ∷ unwrites 1 0 (field 99 9 9 ∷ []) [] 3 (refusal 1 0)
-    ∷ unwrites 2 3 (field 99 9 9 ∷ []) [] 3 (refusal 1 0)
+    ∷ unwrites 2 4 (field 99 9 9 ∷ []) [] 3 (refusal 1 0)
     ∷ unwrites 1 1 (field 99 9 9 ∷ []) [] 65536 (refusal 14 0)
     ∷ unwrites 1 1 (field 99 9 9 ∷ []) [] 65537 (refusal 2 0)
     -- ---- a refused write gives the number of the field: 14, 13, 9, 7, 8
@@ -137,6 +139,14 @@ cases =
     -- ---- what is written, in list order
     ∷ writes 3 2 (field 0x81 0 8 ∷ field 0x11 5 1 ∷ field 0x01 8 2 ∷ []) (hex "01 02 63 04 05 06 0F 27 41 C2") (replicate 20 7) (Wrote 19)
     (hex "56 02 13 81 01 02 63 04 05 06 0F 27 11 06 01 02 41 C2 30 FF")
+    -- edition 3 writes as edition 2 does
+    ∷ writes 1 3 fiveFields lent (replicate 24 7) (Wrote 23) (fbossOf five 0x4826 ++ hex "FF")
+    ∷ writes 2 3 (keyedField 0xFE 2 3 0 4 ∷ []) lent (replicate 11 7) (Wrote 11) (hex "FE 03 05 00 01 04 41 42 05 00 00")
+    ∷ writes 3 3 (field 0x81 0 8 ∷ field 0x11 5 1 ∷ field 0x01 8 2 ∷ []) (hex "01 02 63 04 05 06 0F 27 41 C2") (replicate 20 7) (Wrote 19)
+    (hex "56 02 13 81 01 02 63 04 05 06 0F 27 11 06 01 02 41 C2 30 FF")
+    ∷ unwrites 1 3 (field 1 0 1 ∷ field 21 0 1 ∷ []) lent 4 (refusal 14 1)
+    ∷ unwrites 2 3 (keyedField 0x01 0 8 8 2 ∷ []) (text "lab.rackR2") 30 (refusal 7 0)
+    -- what is written reads back
     ∷ rounds 1 2 (field 12 0 2 ∷ fiveFields ++ (field 20 5 8 ∷ [])) (lent ++ text "01234567") 60
     (saying 12 (text "AB") ∷ saying 1 (text "A") ∷ saying 8 (hex "05") ∷ saying 9 (hex "00") ∷ saying 10 (hex "01") ∷ saying 11 (text "B")
     ∷ saying 20 (text "01234567") ∷ [])

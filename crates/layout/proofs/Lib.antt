@@ -2,6 +2,8 @@ pub mod Cases
 pub mod CasesFboss
 pub mod CasesVpd
 pub mod CasesTiny
+pub mod CasesOnie
+pub mod CasesOnieCalls
 pub mod CasesCalls
 pub mod CasesWrite
 pub mod CasesEdit

@@ -5,7 +5,7 @@ use mathlib.Core.List.{List, [], _∷_}
 use mathlib.Core.Bool.{Bool, true, false}
 use lib.Dec.{leb, eqb}
 use Rattle.layout.specs.declared.Format.{Format}
-use Rattle.layout.specs.declared.Format.the-variants.{Fboss, Vpd, Tiny}
+use Rattle.layout.specs.declared.Format.the-variants.{Fboss, Vpd, Tiny, Onie}
 use Rattle.layout.specs.declared.Chosen.{Chosen}
 use Rattle.layout.specs.declared.Chosen.the-variants.{Known, Unknown}
 use Rattle.layout.specs.Bytes.{if, between}
@@ -13,27 +13,33 @@ use Rattle.layout.specs.Shape.{Shape, Naming}
 use Rattle.layout.specs.Fboss.{fboss}
 use Rattle.layout.specs.Vpd.{vpd}
 use Rattle.layout.specs.Tiny.{tiny}
+use Rattle.layout.specs.Onie.{onie}
 
 abbrev pub shape : Format → Shape
 shape Fboss = fboss
 shape Vpd = vpd
 shape Tiny = tiny
+shape Onie = onie
 
 -- 01's term "edition": the editions of the header that are known
 abbrev pub knownEdition : ℕ → Bool
-knownEdition e = between 1 2 e
+knownEdition e = between 1 3 e
 
--- a format, where the edition is known
+-- a format, where the edition is known and has it: 1, then 16
 abbrev pub withEdition : ℕ → Format → Chosen
-withEdition e f = if (knownEdition e) (λ _. Known f) (λ _. Unknown 1)
+withEdition e f =
+    if (knownEdition e)
+    (λ _. if (leb (shape f .edition) e) (λ _. Known f) (λ _. Unknown 16))
+    (λ _. Unknown 1)
 
--- the format and edition of a call: 16, then 1
+-- the format and edition of a call: 16 for a number that is no format's, then 1, then 16 for a format that the edition does not have
 unfoldable pub chosen : ℕ → ℕ → Chosen
 chosen f e =
     if (eqb f 1) (λ _. withEdition e Fboss)
     (λ _. if (eqb f 2) (λ _. withEdition e Vpd)
     (λ _. if (eqb f 3) (λ _. withEdition e Tiny)
-    (λ _. Unknown 16)))
+    (λ _. if (eqb f 4) (λ _. withEdition e Onie)
+    (λ _. Unknown 16))))
 
 -- the first edition that names a code, or none
 pub data Since : Type 0 where

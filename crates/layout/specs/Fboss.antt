@@ -6,14 +6,12 @@ use mathlib.Core.Bool.{Bool, true, false, _&&_}
 use lib.ListN.{length, getD}
 use lib.Dec.{ltb, eqb}
 use Rattle.crc.specs.Crc.{check16Of}
-use Rattle.layout.specs.declared.Headed.{Headed}
-use Rattle.layout.specs.declared.Headed.the-variants.{Opens, Ends, Wrong}
 use Rattle.layout.specs.declared.Opened.{Opened}
 use Rattle.layout.specs.declared.Opened.the-variants.{Room, Closed}
 use Rattle.layout.specs.declared.Reading.{Reading}
 use Rattle.layout.specs.declared.Reading.the-variants.{Text, Number, Addresses}
 use Rattle.layout.specs.Bytes.{if, between, all, oneOf, highFirst, refusal, part}
-use Rattle.layout.specs.Shape.{Shape, naming, byteLength, bareHead}
+use Rattle.layout.specs.Shape.{Shape, naming, fine, Coded, coded}
 
 -- FB FB 05 FF; the entries have room to the image's end
 unfoldable pub fbossOpened : List ℕ → Opened
@@ -24,19 +22,6 @@ fbossOpened s =
     (λ _. if (eqb (getD s 3 0) 0xFF) (λ _. Room 4 (length s)) (λ _. Closed (refusal 3 0)))
     (λ _. Closed (refusal 4 0)))
     (λ _. Closed (refusal 3 0)))
-
--- code 250 with length 2 ends the image, and its value is the check; 0 and 255 are no codes
-unfoldable pub fbossHead : List ℕ → Headed
-fbossHead s =
-    if (ltb 0 (length s))
-    (λ _. if (eqb (getD s 0 0) 0) (λ _. Wrong 6)
-    (λ _. if (eqb (getD s 0 0) 255) (λ _. Wrong 6)
-    (λ _. if (eqb (getD s 0 0) 250)
-    (λ _. if (ltb 1 (length s))
-    (λ _. if (eqb (getD s 1 0) 2) (λ _. if (ltb 3 (length s)) (λ _. Ends) (λ _. Wrong 5)) (λ _. Wrong 6))
-    (λ _. Wrong 5))
-    (λ _. Opens (bareHead (getD s 0 0))))))
-    (λ _. Wrong 5)
 
 -- a byte of text
 abbrev pub printable : ℕ → Bool
@@ -73,27 +58,25 @@ fbossReading c v =
 abbrev pub fbossCheck : List ℕ → List ℕ
 fbossCheck s = (check16Of s / 256) ∷ (check16Of s % 256) ∷ []
 
-unfoldable pub fboss : Shape
-fboss =
+-- code 250 with length 2 ends the image, and its value is the check
+abbrev pub fbossCoded : Coded
+fbossCoded =
     record {
       number = 1;
-      keyed = false;
+      edition = 1;
       opened = fbossOpened;
-      head = λ b s. fbossHead s;
-      vlen = byteLength;
-      last = λ c. false;
-      closing = 250 ∷ 2 ∷ [];
+      filled = λ p end. fine;
+      end = 250;
+      size = 2;
       check = fbossCheck;
       header = λ n. 0xFB ∷ 0xFB ∷ 0x05 ∷ 0xFF ∷ [];
-      opening = λ c key. c ∷ [];
-      lens = λ c n. n ∷ [];
       most = 65536;
       namings = naming 1 1 16 ∷ naming 2 17 20 ∷ [];
-      readerKey = λ c key. true;
-      writerKey = λ c key. true;
       valueRule = fbossRule;
-      lengthRule = λ c n. ltb n 256;
       reading = fbossReading;
       twice = λ a b. true;
       required = 1 ∷ 8 ∷ 9 ∷ 10 ∷ 11 ∷ [];
     }
+
+unfoldable pub fboss : Shape
+fboss = coded fbossCoded

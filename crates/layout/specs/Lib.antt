@@ -3,6 +3,7 @@ pub mod Shape
 pub mod Fboss
 pub mod Vpd
 pub mod Tiny
+pub mod Onie
 pub mod Editions
 pub mod Walk
 pub mod Read

@@ -12,7 +12,7 @@ use Rattle.layout.specs.declared.Refusal.{Refusal}
 use Rattle.layout.specs.declared.Opened.{Opened}
 use Rattle.layout.specs.declared.Opened.the-variants.{Room, Closed}
 use Rattle.layout.specs.Bytes.{if, oneOf, sameBytes, part, refusal}
-use Rattle.layout.specs.Shape.{Shape, Label}
+use Rattle.layout.specs.Shape.{Shape, Label, Judged, fine, faulty}
 use Rattle.layout.specs.Editions.{shape, chosen, names}
 use Rattle.layout.specs.Walk.{Raw, Content, content, labelOf, Walked, done, stop, walk}
 
@@ -47,11 +47,6 @@ fault S e seen c =
     (λ _. if (readerRule S c) (λ _. if (seenBefore S seen (labelOf c)) (λ _. 8) (λ _. 0)) (λ _. 7))
     (λ _. 0)
 
--- all is well so far; or a number and a place
-pub data Judged : Type 0 where
-  fine : Judged
-  faulty : ℕ → ℕ → Judged
-
 abbrev pub orElse : ℕ → ℕ → (Unit {0} → Judged) → Judged
 orElse zero p rest = rest tt
 orElse (suc n) p rest = faulty (suc n) p
@@ -85,15 +80,20 @@ abbrev pub readComplete : Judged → Format → ℕ → List Raw → Read
 readComplete fine f start rs = if (complete (shape f .required) (codesOf rs)) (λ _. accepted f start rs) (λ _. bad 11 0)
 readComplete (faulty n p) f start rs = bad n p
 
--- after the walk: 10, then 7 and 8 entry by entry
-abbrev pub readWalked : Walked → Format → ℕ → List ℕ → ℕ → Read
-readWalked (done rs p) f e img start =
+-- after what the format asks of the walk's end: 10, then 7 and 8 entry by entry
+abbrev pub readFilled : Judged → List Raw → ℕ → Format → ℕ → List ℕ → ℕ → Read
+readFilled fine rs p f e img start =
     if (sealed (shape f) img p) (λ _. readComplete (judge (shape f) e [] rs start) f start rs) (λ _. bad 10 (checkPlace (shape f) p))
-readWalked (stop n p) f e img start = bad n p
+readFilled (faulty n q) rs p f e img start = bad n q
+
+-- after the walk over a room that ends at `end`: what the format asks there, and the rest
+abbrev pub readWalked : Walked → Format → ℕ → List ℕ → ℕ → ℕ → Read
+readWalked (done rs p) f e img start end = readFilled (shape f .filled p end) rs p f e img start
+readWalked (stop n p) f e img start end = bad n p
 
 -- after the header: the walk over the room
 abbrev pub readOpened : Opened → Format → ℕ → List ℕ → Read
-readOpened (Room start end) f e img = readWalked (walk (shape f) false start (part start (end - start) img)) f e img start
+readOpened (Room start end) f e img = readWalked (walk (shape f) false start (part start (end - start) img)) f e img start end
 readOpened (Closed r) f e img = refused r
 
 -- an image of a known format, with a known edition

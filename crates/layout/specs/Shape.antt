@@ -1,10 +1,10 @@
 -- What a format is, and the frame of one entry, for any format.
 -- Assumes nothing.
 use Prim.Native.Nat.{ℕ, zero, suc, _+_}
-use mathlib.Core.List.{List}
+use mathlib.Core.List.{List, [], _∷_}
 use mathlib.Core.Bool.{Bool, true, false}
 use lib.ListN.{length, getD}
-use lib.Dec.{ltb, leb}
+use lib.Dec.{ltb, leb, eqb}
 use Rattle.layout.specs.declared.Head.{Head}
 use Rattle.layout.specs.declared.Headed.{Headed}
 use Rattle.layout.specs.declared.Headed.the-variants.{Opens, Ends, Wrong}
@@ -31,9 +31,16 @@ pub record Label : Type 0 where
   pub code : ℕ
   pub key : List ℕ
 
+-- all is well so far; or a number and a place
+pub data Judged : Type 0 where
+  fine : Judged
+  faulty : ℕ → ℕ → Judged
+
 pub record Shape : Type 0 where
   -- the format's number in 01
   pub number : ℕ
+  -- the first edition that has the format
+  pub edition : ℕ
   -- does an entry have a key
   pub keyed : Bool
   -- the header of an image: where its entries are
@@ -44,6 +51,8 @@ pub record Shape : Type 0 where
   pub vlen : Head → List ℕ → Length
   -- may no entry follow one of this code
   pub last : ℕ → Bool
+  -- what is asked after the walk and before the check, of the place where the entries end and the place where their room does
+  pub filled : ℕ → ℕ → Judged
   -- the bytes between the last entry and the check, as they are written
   pub closing : List ℕ
   -- the bytes of the check over all that stands before the closing
@@ -95,3 +104,63 @@ byteLength h s = if (ltb (h .at) (length s)) (λ _. Reads (getD s (h .at) 0) (h 
 -- the head of an entry without a key, which is a code byte alone
 abbrev pub bareHead : ℕ → Head
 bareHead c = record { code = c; key = 1; klen = 0; at = 1 }
+
+-- ---- formats whose entries are a code byte, a length byte and the value, and end with an entry of one code and length, whose value is the check
+
+-- what opens an entry there: the code `end` with the length `size` ends the image; 0 and 255 are no codes
+unfoldable pub codedHead : (end size : ℕ) → List ℕ → Headed
+codedHead end size s =
+    if (ltb 0 (length s))
+    (λ _. if (eqb (getD s 0 0) 0) (λ _. Wrong 6)
+    (λ _. if (eqb (getD s 0 0) 255) (λ _. Wrong 6)
+    (λ _. if (eqb (getD s 0 0) end)
+    (λ _. if (ltb 1 (length s))
+    (λ _. if (eqb (getD s 1 0) size) (λ _. if (leb (2 + size) (length s)) (λ _. Ends) (λ _. Wrong 5)) (λ _. Wrong 6))
+    (λ _. Wrong 5))
+    (λ _. Opens (bareHead (getD s 0 0))))))
+    (λ _. Wrong 5)
+
+-- what differs from one such format to another; its members are those of a shape
+pub record Coded : Type 0 where
+  pub number : ℕ
+  pub edition : ℕ
+  pub opened : List ℕ → Opened
+  pub filled : ℕ → ℕ → Judged
+  -- the code and the length of the entry that ends an image
+  pub end : ℕ
+  pub size : ℕ
+  pub check : List ℕ → List ℕ
+  pub header : ℕ → List ℕ
+  pub most : ℕ
+  pub namings : List Naming
+  pub valueRule : ℕ → List ℕ → Bool
+  pub reading : ℕ → List ℕ → Reading
+  pub twice : Label → Label → Bool
+  pub required : List ℕ
+
+abbrev pub coded : Coded → Shape
+coded K =
+    record {
+      number = K .number;
+      edition = K .edition;
+      keyed = false;
+      opened = K .opened;
+      head = λ b s. codedHead (K .end) (K .size) s;
+      vlen = byteLength;
+      last = λ c. false;
+      filled = K .filled;
+      closing = K .end ∷ K .size ∷ [];
+      check = K .check;
+      header = K .header;
+      opening = λ c key. c ∷ [];
+      lens = λ c n. n ∷ [];
+      most = K .most;
+      namings = K .namings;
+      readerKey = λ c key. true;
+      writerKey = λ c key. true;
+      valueRule = K .valueRule;
+      lengthRule = λ c n. ltb n 256;
+      reading = K .reading;
+      twice = K .twice;
+      required = K .required;
+    }

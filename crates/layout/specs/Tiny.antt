@@ -17,7 +17,7 @@ use Rattle.layout.specs.declared.Identity.{Identity}
 use Rattle.layout.specs.declared.Reading.{Reading}
 use Rattle.layout.specs.declared.Reading.the-variants.{Plain, Addresses, Numbered, Tests, Identified, Batched}
 use Rattle.layout.specs.Bytes.{if, between, part, highFirst, refusal, stringNumber}
-use Rattle.layout.specs.Shape.{Shape, naming, byteLength, bareHead}
+use Rattle.layout.specs.Shape.{Shape, naming, fine, byteLength, bareHead}
 
 -- 56h, 02h, the total length L; the entries fill bytes 3 to L-2
 unfoldable pub tinyOpened : List ℕ → Opened
@@ -87,11 +87,13 @@ unfoldable pub tiny : Shape
 tiny =
     record {
       number = 3;
+      edition = 1;
       keyed = false;
       opened = tinyOpened;
       head = tinyHead;
       vlen = tinyLength;
       last = λ c. eqb c 0x01;
+      filled = λ p end. fine;
       closing = [];
       check = λ s. check8Of 0 s ∷ [];
       header = λ n. 0x56 ∷ 0x02 ∷ (n + 4) ∷ [];

@@ -13,7 +13,7 @@ use Rattle.layout.specs.declared.Length.the-variants.{Reads, Fails}
 use Rattle.layout.specs.declared.Opened.the-variants.{Room}
 use Rattle.layout.specs.declared.Reading.the-variants.{Plain}
 use Rattle.layout.specs.Bytes.{if, between, all, sameBytes}
-use Rattle.layout.specs.Shape.{Shape, Label, naming}
+use Rattle.layout.specs.Shape.{Shape, Label, naming, fine}
 
 -- the length that begins at j, where n was read so far and k more length bytes are allowed
 unfoldable pub groups : ℕ → ℕ → ℕ → List ℕ → Length
@@ -72,11 +72,13 @@ unfoldable pub vpd : Shape
 vpd =
     record {
       number = 2;
+      edition = 1;
       keyed = true;
       opened = λ s. Room 0 (length s);
       head = λ b s. vpdHead s;
       vlen = λ h s. groups 4 0 (h .at) s;
       last = λ c. false;
+      filled = λ p end. fine;
       closing = 0x00 ∷ [];
       check = λ s. [];
       header = λ n. [];

@@ -14,10 +14,10 @@ use Rattle.layout.specs.declared.Refusal.{Refusal}
 use Rattle.layout.specs.declared.Made.{Made}
 use Rattle.layout.specs.declared.Made.the-variants.{Wrote, Unwritten}
 use Rattle.layout.specs.Bytes.{if, part, partAt, refusal}
-use Rattle.layout.specs.Shape.{Shape, Label}
+use Rattle.layout.specs.Shape.{Shape, Label, Judged, fine, faulty}
 use Rattle.layout.specs.Editions.{shape, chosen, names}
 use Rattle.layout.specs.Walk.{Content, labelOf}
-use Rattle.layout.specs.Read.{limit, seenBefore, Judged, fine, faulty, orElse, complete}
+use Rattle.layout.specs.Read.{limit, seenBefore, orElse, complete}
 use Rattle.layout.specs.Calls.{Told, told, toldRefusal}
 
 -- ---- fields in lent bytes

@@ -12,11 +12,12 @@ pub struct Part {
     pub len: usize,
 }
 
-// The layouts; document 01 numbers them 1, 2 and 3.
+// The layouts; document 01 numbers them 1, 2 and 3, and document 02 adds 4.
 pub enum Format {
     Fboss,
     Vpd,
     Tiny,
+    Onie,
 }
 
 // What a call's format and edition come to: a layout, or the number of the refusal.

@@ -9,12 +9,13 @@ use borrow.Author.Tests.{le-leb, lt-leb, leb-true, leb-false}
 use lib.ListN.{length, length-append}
 use lib.Dec.{leb}
 use Rattle.layout.specs.declared.Format.{Format}
-use Rattle.layout.specs.declared.Format.the-variants.{Fboss, Vpd, Tiny}
+use Rattle.layout.specs.declared.Format.the-variants.{Fboss, Vpd, Tiny, Onie}
 use Rattle.layout.specs.Bytes.{if}
 use Rattle.layout.specs.Shape.{Shape}
 use Rattle.layout.specs.Fboss.{fboss}
 use Rattle.layout.specs.Vpd.{vpd, shortest}
 use Rattle.layout.specs.Tiny.{tiny}
+use Rattle.layout.specs.Onie.{onie, onieCheck}
 use Rattle.layout.specs.Editions.{shape}
 use Rattle.layout.specs.Read.{limit}
 use Rattle.layout.specs.Write.{body, imageOf}
@@ -45,16 +46,18 @@ length-keyed c key = ap suc (length-append (shortest (length key)) key)
 
 -- Headers have one length, whatever the entries, and so have checks.
 pub length-header : (f : Format) (n : ℕ) → length (shape f .header n) ≡ length (shape f .header 0)
-unfolding fboss vpd tiny
+unfolding fboss vpd tiny onie
 length-header Fboss n = refl
 length-header Vpd n = refl
 length-header Tiny n = refl
+length-header Onie n = refl
 
 pub length-check : (f : Format) (s : List ℕ) → length (shape f .check s) ≡ length (shape f .check [])
-unfolding fboss vpd tiny
+unfolding fboss vpd tiny onie onieCheck
 length-check Fboss s = refl
 length-check Vpd s = refl
 length-check Tiny s = refl
+length-check Onie s = refl
 
 pub length-image : (f : Format) (entries : List ℕ) → length (imageOf (shape f) entries) ≡ sealedLength (shape f) (length entries)
 unfolding imageOf

@@ -9,12 +9,13 @@ use borrow.Author.Tests.{lt-leb, leb-false}
 use lib.ListN.{length}
 use lib.Dec.{leb}
 use Rattle.layout.specs.declared.Format.{Format}
-use Rattle.layout.specs.declared.Format.the-variants.{Fboss, Vpd, Tiny}
+use Rattle.layout.specs.declared.Format.the-variants.{Fboss, Vpd, Tiny, Onie}
 use Rattle.layout.specs.declared.Made.the-variants.{Wrote}
 use Rattle.layout.specs.Bytes.{part, refusal}
 use Rattle.layout.specs.Fboss.{fboss}
 use Rattle.layout.specs.Vpd.{vpd}
 use Rattle.layout.specs.Tiny.{tiny}
+use Rattle.layout.specs.Onie.{onie}
 use Rattle.layout.specs.Editions.{shape}
 use Rattle.layout.specs.Read.{limit}
 use Rattle.layout.specs.Write.{refuse, imageOf, padded, put}
@@ -24,10 +25,11 @@ use Rattle.output.proofs.Lengths.{capped-min, length-header, length-ima
 use Rattle.output.proofs.Sealing.{finished-is}
 
 pub most-limit : (f : Format) → shape f .most ≤ limit
-unfolding fboss vpd tiny
+unfolding fboss vpd tiny onie
 most-limit Fboss = omega arith
 most-limit Vpd = omega arith
 most-limit Tiny = omega arith
+most-limit Onie = omega arith
 
 module _ (f : Format) (n room : ℕ) where
   -- Entries that fit are not cut off.

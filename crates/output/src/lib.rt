@@ -10,6 +10,7 @@ ghost use Rattle.layout.specs.Write.{imageOf, padded};
 ghost use Rattle.layout.specs.Fboss.{fboss};
 ghost use Rattle.layout.specs.Vpd.{vpd, shortest};
 ghost use Rattle.layout.specs.Tiny.{tiny};
+ghost use Rattle.layout.specs.Onie.{onie};
 ghost use Rattle.layout.specs.Editions.{shape};
 ghost use Rattle.output.specs.Lengths.{capped, sealedLength, fitsIn, hasRoom};
 ghost use Rattle.output.specs.Placing.{copied, openingPlaced, valuePlaced, finished};
@@ -38,6 +39,7 @@ pub fn length_rule(format: Format, code: u32, n: usize) -> bool
         Format::Fboss => n < 256,
         Format::Vpd => true,
         Format::Tiny => tiny::tiny_takes(code, n),
+        Format::Onie => n < 256,
     }
 }
 
@@ -70,6 +72,7 @@ fn lens_length(format: Format, code: u32, n: usize) -> usize
             }
             0
         }
+        Format::Onie => 1,
     }
 }
 
@@ -81,6 +84,7 @@ pub fn opening_length(format: Format, code: u32, key: &[u8]) -> usize
         Format::Fboss => 1,
         Format::Vpd => add_capped(1 + shortest_length(key.len()), key.len()),
         Format::Tiny => 1,
+        Format::Onie => 1,
     }
 }
 
@@ -99,6 +103,7 @@ pub fn image_length(format: Format, n: usize) -> usize
         Format::Fboss => add_capped(n, 8),
         Format::Vpd => add_capped(n, 1),
         Format::Tiny => add_capped(n, 4),
+        Format::Onie => add_capped(n, 17),
     }
 }
 
@@ -110,6 +115,7 @@ fn most(format: Format) -> usize
         Format::Fboss => 65536,
         Format::Vpd => 65536,
         Format::Tiny => 255,
+        Format::Onie => 2059,
     }
 }
 
@@ -132,6 +138,7 @@ pub fn header_length(format: Format) -> usize
         Format::Fboss => 4,
         Format::Vpd => 0,
         Format::Tiny => 3,
+        Format::Onie => 11,
     }
 }
 
@@ -210,6 +217,7 @@ fn write_opening(out: &mut [u8], at: usize, format: Format, code: u32, key: &[u8
             copy_at(out, at + 1 + shortest_length(key.len()), key);
         }
         Format::Tiny => {}
+        Format::Onie => {}
     }
 }
 
@@ -237,6 +245,7 @@ fn put_lens(out: &mut [u8], at: usize, format: Format, code: u32, n: usize)
                 put_one(out, at, n);
             }
         }
+        Format::Onie => put_one(out, at, n),
     }
 }
 
@@ -319,6 +328,29 @@ fn finish_tiny(out: &mut [u8], n: usize)
     put_end(out, at, &end);
 }
 
+// TlvInfo and a zero, 01, the length of all after the header, the entries, FE 04, and the check over all before it, high byte first.
+fn finish_onie(out: &mut [u8], n: usize)
+    requires { ⌜ (n + 17 ≤ length (now out)) × (n + 17 ≤ 2059) ⌝ }
+    ensures { λ r. ⌜ now (out .exit) ≡ padded (imageOf onie (part 11 n (now (out .entry)))) (length (now (out .entry))) ⌝ }
+{
+    let magic = onie::TLV_INFO;
+    copy_at(out, 0, &magic);
+    let total = n + 6;
+    let version = [0x01, (total / 256) as u8, (total % 256) as u8];
+    copy_at(out, 8, &version);
+    let at = n + 11;
+    let c = crc::check32_closed(&out[..at], 0xFE, 0x04);
+    let end = [
+        0xFE,
+        0x04,
+        (c / 16777216) as u8,
+        (c / 65536 % 256) as u8,
+        (c / 256 % 256) as u8,
+        (c % 256) as u8,
+    ];
+    put_end(out, at, &end);
+}
+
 // The n bytes of entries that stand where the header ends become an image: header, end, check, and FFh after it.
 pub fn finish(out: &mut [u8], format: Format, n: usize)
     ensures { λ r. ⌜ now (out .exit) ≡ finished (shape format) (now (out .entry)) n ⌝ }
@@ -328,6 +360,7 @@ pub fn finish(out: &mut [u8], format: Format, n: usize)
             Format::Fboss => finish_fboss(out, n),
             Format::Vpd => finish_vpd(out, n),
             Format::Tiny => finish_tiny(out, n),
+            Format::Onie => finish_onie(out, n),
         }
     }
 }

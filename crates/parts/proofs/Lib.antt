@@ -1,2 +1,4 @@
 pub mod Loops
 pub mod Tests
+pub mod Ranges
+pub mod Seal

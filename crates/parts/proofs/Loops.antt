@@ -10,7 +10,6 @@ use native.Mathlib.Omega.{arith}
 use lib.ListN.{length, getD, drop, drop-of-length-le}
 use lib.Seq.{drop-cons, take-nil}
 use lib.Dec.{eqb}
-use borrow.Author.Tests.{eq-eqb, ne-eqb}
 use Rattle.layout.specs.Bytes.{if, all, sameBytes, part, highFirst}
 
 -- A loop that tests each byte: whether all pass is whether all from i on do.
@@ -35,36 +34,47 @@ or-else : (t : Bool) {a : Bool} → false ≡ a → false ≡ if t (λ _. a) (λ
 or-else true e = e
 or-else false e = refl
 
--- Lists of unequal lengths are not the same bytes.
-pub unlike : (x y : List ℕ) → (length x ≡ length y → ⊥) → false ≡ sameBytes x y
+-- a question about two lists: they have one length, and each pair of bytes passes the test
+pub record Pairs (t : ℕ → ℕ → Bool) (z : List ℕ → List ℕ → Bool) : Type 0 where
+  pub none : true ≡ z [] []
+  pub fewer : (b : ℕ) (y : List ℕ) → false ≡ z [] (b ∷ y)
+  pub more : (a : ℕ) (x : List ℕ) → false ≡ z (a ∷ x) []
+  pub pair : (a b : ℕ) (x y : List ℕ) → z (a ∷ x) (b ∷ y) ≡ if (t a b) (λ _. z x y) (λ _. false)
+
+-- the same bytes: each byte is equal to its partner
+pub same-pairs : Pairs eqb sameBytes
 unfolding sameBytes
-unlike [] [] n = absurd (n refl)
-unlike [] (b ∷ y) n = refl
-unlike (a ∷ x) [] n = refl
-unlike (a ∷ x) (b ∷ y) n = or-else (eqb a b) (unlike x y (λ e. n (ap suc e)))
+same-pairs = record { none = refl; fewer = λ b y. refl; more = λ a x. refl; pair = λ a b x y. refl }
 
--- A loop that compares lists of one length: whether they are the same is whether they are from i on.
-abbrev pub Matching : List ℕ → List ℕ → ℕ → Type 0
-Matching x y i = (i ≤ length x) × (length x ≡ length y) × (sameBytes x y ≡ sameBytes (drop i x) (drop i y))
+-- A loop that compares lists of one length: whether they pass is whether they do from i on.
+abbrev pub Matching : (List ℕ → List ℕ → Bool) → List ℕ → List ℕ → ℕ → Type 0
+Matching z x y i = (i ≤ length x) × (length x ≡ length y) × (z x y ≡ z (drop i x) (drop i y))
 
-module _ (x y : List ℕ) (i : ℕ) (inv : Matching x y i) where
-  pub matches : i < length x → getD x i 0 ≡ getD y i 0 → Matching x y (i + 1)
-  unfolding sameBytes
-  matches lt e =
-      let l : i < length y = omega arith in
-      (omega arith, inv .1, inv .2 ∙ rw (drop-cons x i 0, drop-cons y i 0, eq-eqb (getD x i 0) (getD y i 0), add-one))
+module _ {t : ℕ → ℕ → Bool} {z : List ℕ → List ℕ → Bool} (P : Pairs t z) where
+  -- Lists of unequal lengths do not pass.
+  pub unlike : (x y : List ℕ) → (length x ≡ length y → ⊥) → false ≡ z x y
+  unlike [] [] n = absurd (n refl)
+  unlike [] (b ∷ y) n = P .fewer b y
+  unlike (a ∷ x) [] n = P .more a x
+  unlike (a ∷ x) (b ∷ y) n = or-else (t a b) (unlike x y (λ e. n (ap suc e))) ∙ sym (P .pair a b x y)
 
-  pub differs : i < length x → (getD x i 0 ≡ getD y i 0 → ⊥) → false ≡ sameBytes x y
-  unfolding sameBytes
-  differs lt n =
-      let l : i < length y = omega arith in
-      sym (inv .2 ∙ rw (drop-cons x i 0, drop-cons y i 0, ne-eqb (getD x i 0) (getD y i 0)))
+  module _ (x y : List ℕ) (i : ℕ) (inv : Matching z x y i) where
+    -- what is left begins with this pair
+    left : i < length x → z x y ≡ if (t (getD x i 0) (getD y i 0)) (λ _. z (drop (suc i) x) (drop (suc i) y)) (λ _. false)
+    left lt =
+        let l : i < length y = omega arith in
+        inv .2 ∙ rw (drop-cons x i 0, drop-cons y i 0) (P .pair (getD x i 0) (getD y i 0) (drop (suc i) x) (drop (suc i) y))
 
-  pub matched : length x ≤ i → true ≡ sameBytes x y
-  unfolding sameBytes
-  matched le =
-      let l : length y ≤ i = omega arith in
-      sym (inv .2 ∙ rw (drop-of-length-le x le, drop-of-length-le y l))
+    pub matches : i < length x → t (getD x i 0) (getD y i 0) ≡ true → Matching z x y (i + 1)
+    matches lt e = (omega arith, inv .1, rw e at (left lt) ∙ rw add-one)
+
+    pub differs : i < length x → t (getD x i 0) (getD y i 0) ≡ false → false ≡ z x y
+    differs lt e = sym (rw e at (left lt))
+
+    pub matched : length x ≤ i → true ≡ z x y
+    matched le =
+        let l : length y ≤ i = omega arith in
+        P .none ∙ sym (inv .2 ∙ rw (drop-of-length-le x le, drop-of-length-le y l))
 
 -- A loop that takes the bytes from a to before end into a number: with those from i on it is the whole number, and it is below 256 for each byte taken.
 abbrev pub Taking : List ℕ → (a end r i : ℕ) → Type 0

@@ -1,11 +1,16 @@
-// What the readers of all formats do with parts of bytes.
+// What the readers of several formats do alike: parts of bytes, numbers in them, and entries of one code byte.
 ghost use mathlib.Core.Path.{_≡_};
 ghost use Prim.Native.Nat.{_+_, _-_, _^_, _≤_, _<_};
 ghost use lib.Dec.{leb};
-ghost use Rattle.layout.specs.Bytes.{sameBytes, part, highFirst};
-ghost use Rattle.layout.specs.Shape.{byteLength};
+ghost use Rattle.layout.specs.Bytes.{all, between, sameBytes, part, highFirst, refusal};
+ghost use Rattle.layout.specs.Shape.{byteLength, codedHead};
+ghost use Rattle.layout.specs.Fboss.{printable};
 use layout::Head;
+use layout::Headed;
 use layout::Length;
+use layout::Opened;
+use layout::Place;
+use layout::Refusal;
 
 // A byte as a length.
 fn wide(x: u8) -> usize
@@ -39,6 +44,58 @@ pub fn byte_length(s: &[u8], h: Head) -> Length
     }
 }
 
+// A byte as a code.
+fn code_of(x: u8) -> u32
+    ensures { λ r. ⌜ r ≡ x ⌝ }
+{
+    x as u32
+}
+
+// What opens an entry of one code byte and one length byte, in a format that ends with an entry of the code `end` and the length `size`.
+pub fn coded_head(s: &[u8], end: u8, size: u8) -> Headed
+    ensures { λ r. ⌜ r ≡ codedHead end size (now (s .entry)) ⌝ }
+{
+    if s.len() <= 0 {
+        return Headed::Wrong(5);
+    }
+    let first = s[0];
+    if first == 0 {
+        return Headed::Wrong(6);
+    }
+    if first == 255 {
+        return Headed::Wrong(6);
+    }
+    if first == end {
+        if s.len() <= 1 {
+            return Headed::Wrong(5);
+        }
+        if s[1] != size {
+            return Headed::Wrong(6);
+        }
+        let n = size as usize;
+        if s.len() < 2 + n {
+            return Headed::Wrong(5);
+        }
+        return Headed::Ends;
+    }
+    Headed::Opens(Head {
+        code: code_of(first),
+        key: 1,
+        klen: 0,
+        at: 1,
+    })
+}
+
+// The answer for a header that is refused.
+pub fn closed(number: u32, place: usize) -> Opened
+    ensures { λ r. ⌜ r ≡ Opened.Closed (refusal number place) ⌝ }
+{
+    Opened::Closed(Refusal {
+        number: number,
+        place: Place(place),
+    })
+}
+
 // The bytes from `a` to before `end`, as far as there are any, as one number, high byte first.
 fn high_first(s: &[u8], a: usize, end: usize) -> u64
     requires { ⌜ (a ≤ end) × (end ≤ a + 6) ⌝ }
@@ -63,6 +120,13 @@ pub fn six_bytes(s: &[u8]) -> u64
     high_first(s, 0, 6)
 }
 
+// The first two bytes as one number, high byte first.
+pub fn first_two(s: &[u8]) -> u32
+    ensures { λ r. ⌜ r ≡ highFirst 0 (part 0 2 (now (s .entry))) ⌝ }
+{
+    high_first(s, 0, 2) as u32
+}
+
 // The two bytes after the first six as one number, high byte first: the count of an address block.
 pub fn two_bytes(s: &[u8]) -> u64
     ensures { λ r. ⌜ r ≡ highFirst 0 (part 6 2 (now (s .entry))) ⌝ }
@@ -85,4 +149,28 @@ pub fn same_bytes(x: &[u8], y: &[u8]) -> bool
         i += 1;
     }
     true
+}
+
+// Whether every byte is one of low to high.
+pub fn all_between(v: &[u8], low: u8, high: u8) -> bool
+    ensures { λ r. ⌜ r ≡ all (between low high) (now (v .entry)) ⌝ }
+{
+    let mut at = 0;
+    while at < v.len() {
+        if v[at] < low {
+            return false;
+        }
+        if high < v[at] {
+            return false;
+        }
+        at += 1;
+    }
+    true
+}
+
+// Whether every byte is text.
+pub fn all_printable(v: &[u8]) -> bool
+    ensures { λ r. ⌜ r ≡ all printable (now (v .entry)) ⌝ }
+{
+    all_between(v, 0x20, 0x7E)
 }

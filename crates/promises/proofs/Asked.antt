@@ -1,24 +1,24 @@
 -- What no call takes.
 -- Assumes nothing.
 use Prim.Native.Nat.{ℕ, _<_}
-use mathlib.Core.Path.{_≡_, refl}
+use mathlib.Core.Path.{_≡_, refl, _∙_}
 use mathlib.Core.List.{List}
 use mathlib.Core.Logic.{_⊎_, inl, inr}
 use mathlib.Core.Bool.{Bool, true, false, _||_}
 use lib.ListN.{length}
 use lib.Dec.{ltb}
-use borrow.Author.Tests.{ne-eqb, lt-ltb}
+use borrow.Author.Tests.{ne-eqb, lt-ltb, lt-leb}
 use Rattle.layout.specs.declared.Format.{Format}
-use Rattle.layout.specs.declared.Format.the-variants.{Fboss, Vpd, Tiny}
+use Rattle.layout.specs.declared.Format.the-variants.{Fboss, Vpd, Tiny, Onie}
 use Rattle.layout.specs.declared.Chosen.the-variants.{Known, Unknown}
 use Rattle.layout.specs.Editions.{knownEdition, chosen}
 use Rattle.layout.specs.Read.{limit, readImage}
 use Rattle.layout.specs.Calls.{checkImage, listEntries, entryAt, valueAt}
 use Rattle.layout.specs.Write.{writeImage}
 use Rattle.layout.specs.Edit.{editEntry}
-use Rattle.promises.specs.Words.{FormatNumber, fboss, vpd, tiny, KnownEdition, Refuses, tellsEdit}
+use Rattle.promises.specs.Words.{FormatNumber, fboss, vpd, tiny, onie, KnownEdition, firstEdition, Refuses, tellsEdit}
 use Rattle.promises.specs.Asked.{AllRefuse, TooLong, Asked}
-use Rattle.promises.proofs.Telling.{known-edition, serves-chosen}
+use Rattle.promises.proofs.Telling.{edition-known, known-edition, first-edition, number-chosen, serves-chosen}
 
 -- ---- formats and editions
 
@@ -26,7 +26,12 @@ use Rattle.promises.proofs.Telling.{known-edition, serves-chosen}
 no-format : (f e : ℕ) → ((g : Format) → FormatNumber f g → ⊥) → chosen f e ≡ Unknown 16
 unfolding chosen
 no-format f e none =
-    rw (ne-eqb f 1 (λ q. none Fboss (rw q fboss)), ne-eqb f 2 (λ q. none Vpd (rw q vpd)), ne-eqb f 3 (λ q. none Tiny (rw q tiny)))
+    rw (
+      ne-eqb f 1 (λ q. none Fboss (rw q fboss)),
+      ne-eqb f 2 (λ q. none Vpd (rw q vpd)),
+      ne-eqb f 3 (λ q. none Tiny (rw q tiny)),
+      ne-eqb f 4 (λ q. none Onie (rw q onie)),
+    )
 
 unknown-edition : (e : ℕ) → (KnownEdition e → ⊥) → knownEdition e ≡ false
 unknown-edition e none = go (knownEdition e) refl
@@ -37,10 +42,11 @@ unknown-edition e none = go (knownEdition e) refl
 
 -- 1 where it stands for one, and the edition is not known
 no-edition : (f e : ℕ) (g : Format) → FormatNumber f g → (KnownEdition e → ⊥) → chosen f e ≡ Unknown 1
-unfolding chosen
-no-edition f e g fboss none = rw (unknown-edition e none)
-no-edition f e g vpd none = rw (unknown-edition e none)
-no-edition f e g tiny none = rw (unknown-edition e none)
+no-edition f e g number none = number-chosen e number ∙ rw (unknown-edition e none)
+
+-- 16 where the edition is known, and before the first that has the format
+too-early : (f e : ℕ) (g : Format) → FormatNumber f g → KnownEdition e → e < firstEdition g → chosen f e ≡ Unknown 16
+too-early f e g number k early = number-chosen e number ∙ rw (edition-known e k, first-edition g, lt-leb (firstEdition g) e early)
 
 all-refuse : (f e n : ℕ) → chosen f e ≡ Unknown n → AllRefuse f e n
 unfolding readImage checkImage listEntries entryAt valueAt writeImage editEntry
@@ -78,5 +84,6 @@ asked =
     record {
       format = λ f e none. all-refuse f e 16 (no-format f e none);
       edition = λ f e g number none. all-refuse f e 1 (no-edition f e g number none);
+      early = λ f e g number k early. all-refuse f e 16 (too-early f e g number k early);
       length = λ f e g serves. too-long f e g (serves-chosen serves);
     }

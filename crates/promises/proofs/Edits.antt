@@ -30,7 +30,7 @@ pub record Done (f e : ℕ) (image : List ℕ) (i : ℕ) (v out : List ℕ) (m :
   pub reading : Reading f e image format start raws
   pub short : length out ≤ limit
   pub editable : Editable (shape format) e raws i v
-  pub took : Took (imageOf (shape format) (editedBytes (shape format) raws i v)) out m (editEntry f e image i v out .memory)
+  pub took : Took (shape format) (imageOf (shape format) (editedBytes (shape format) raws i v)) out m (editEntry f e image i v out .memory)
 
 -- the new value is no longer than the edited entries
 value-shorter : (S : Shape) (e : ℕ) (rs : List Raw) (i : ℕ) (v : List ℕ) → Editable S e rs i v → length v ≤ length (editedBytes S rs i v)

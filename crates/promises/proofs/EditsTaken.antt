@@ -8,7 +8,7 @@ use native.Mathlib.Omega.{arith}
 use lib.ListN.{length, take, length-append}
 use lib.Seq.{length-take-le}
 use Rattle.layout.specs.declared.Format.{Format}
-use Rattle.layout.specs.declared.Format.the-variants.{Fboss, Vpd, Tiny}
+use Rattle.layout.specs.declared.Format.the-variants.{Fboss, Vpd, Tiny, Onie}
 use Rattle.layout.specs.declared.Entry.{Entry}
 use Rattle.layout.specs.declared.Made.the-variants.{Wrote}
 use Rattle.layout.specs.Shape.{Shape}
@@ -16,6 +16,7 @@ use Rattle.layout.specs.Editions.{shape, names}
 use Rattle.layout.specs.Fboss.{fboss}
 use Rattle.layout.specs.Vpd.{vpd}
 use Rattle.layout.specs.Tiny.{tiny}
+use Rattle.layout.specs.Onie.{onie}
 use Rattle.layout.specs.Walk.{Raw, flat}
 use Rattle.layout.specs.Calls.{entryOf, entriesOf}
 use Rattle.layout.specs.Read.{limit, Read}
@@ -74,6 +75,7 @@ length-place Vpd e p r i =
     let k : KeyLast (i .front) (i .key) = laws Vpd .opening-key (i .front) (i .key) (i .code) (i .opens) in
     rw (i .framed) (omega (arith, ap length (k .joined), length-append (k .before) (i .key)))
 length-place Tiny e p r i = rw (i .framed) (omega (arith, ap length (i .opens .is)))
+length-place Onie e p r i = rw (i .framed) (omega (arith, ap length (i .opens .is)))
 
 -- the bytes of entries with and without another value: what is common to both, and the length and value of the one entry
 record Sizes (g : Format) (rs : List Raw) (i : ℕ) (x : Entry) (v : List ℕ) : Type 0 where
@@ -105,10 +107,11 @@ item-sizes g e p b (r ∷ rs) (suc i) v x fs (there t) =
 
 -- what stands before the entries is as long in every image of a format
 header-size : (g : Format) (n : ℕ) → length (shape g .header n) ≡ headerSize g
-unfolding fboss vpd tiny
+unfolding fboss vpd tiny onie
 header-size Fboss n = refl
 header-size Vpd n = refl
 header-size Tiny n = refl
+header-size Onie n = refl
 
 -- ---- edits of an accepted image
 

@@ -9,7 +9,7 @@ use lib.ListN.{length, getD}
 use lib.Dec.{ltb, leb, eqb}
 use borrow.Author.Tests.{eqb-true, leb-true}
 use Rattle.layout.specs.declared.Format.{Format}
-use Rattle.layout.specs.declared.Format.the-variants.{Fboss, Vpd, Tiny}
+use Rattle.layout.specs.declared.Format.the-variants.{Fboss, Vpd, Tiny, Onie}
 use Rattle.layout.specs.declared.Chosen.{Chosen}
 use Rattle.layout.specs.declared.Chosen.the-variants.{Known, Unknown}
 use Rattle.layout.specs.declared.Head.{Head}
@@ -21,11 +21,12 @@ use Rattle.layout.specs.declared.Next.{Next}
 use Rattle.layout.specs.declared.Next.the-variants.{Framed, Ended, Broken}
 use Rattle.layout.specs.declared.Opened.{Opened}
 use Rattle.layout.specs.declared.Opened.the-variants.{Room, Closed}
-use Rattle.layout.specs.Bytes.{if, between, all, oneOf}
-use Rattle.layout.specs.Shape.{byteLength, onLength, onHead, next}
-use Rattle.layout.specs.Fboss.{fboss, fbossOpened, fbossHead}
+use Rattle.layout.specs.Bytes.{if, between, all, oneOf, sameBytes, part}
+use Rattle.layout.specs.Shape.{byteLength, onLength, onHead, next, codedHead}
+use Rattle.layout.specs.Fboss.{fboss, fbossOpened}
 use Rattle.layout.specs.Vpd.{vpd, groups, keyedHead, vpdHead}
 use Rattle.layout.specs.Tiny.{tiny, tinyOpened, tinyHead, tinyLength}
+use Rattle.layout.specs.Onie.{onie, tlvInfo, declared, mostDeclared, onieOpened}
 use Rattle.layout.specs.Editions.{shape, knownEdition, withEdition, chosen}
 use Rattle.laws.proofs.Choices.{false-true, either, both}
 use Rattle.promises.specs.FramesAlike.{frameNumbers}
@@ -66,7 +67,7 @@ NextNumber (Broken n) = oneOf frameNumbers n ≡ true
 -- the place of a header that is refused is one of its own
 abbrev pub OpenedLow : Opened → Type 0
 OpenedLow (Room start end) = Unit {0}
-OpenedLow (Closed r) = Low frameNumbers 4 (r .number) (r .place .0)
+OpenedLow (Closed r) = Low frameNumbers 9 (r .number) (r .place .0)
 
 abbrev pub ChosenNumber : List ℕ → Chosen → Type 0
 ChosenNumber numbers (Known f) = Unit {0}
@@ -87,10 +88,11 @@ groups-number (suc k) n j s =
     (λ _. refl)
 
 length-number : (f : Format) (h : Head) (s : List ℕ) → LengthNumber (shape f .vlen h s)
-unfolding fboss vpd tiny tinyLength
+unfolding fboss vpd tiny onie tinyLength
 length-number Fboss h s = byte-number h s
 length-number Vpd h s = groups-number 4 0 (h .at) s
 length-number Tiny h s = either LengthNumber (ltb (h .code) 16) (λ _. byte-number h s) (λ _. tt)
+length-number Onie h s = byte-number h s
 
 -- ---- heads
 
@@ -99,18 +101,22 @@ unfolding oneOf
 keyed-number (Reads n j) s l = either HeadNumber (leb (j + n) (length s)) (λ _. tt) (λ _. refl)
 keyed-number (Fails n) s l = l
 
-head-number : (f : Format) (b : Bool) (s : List ℕ) → HeadNumber (shape f .head b s)
-unfolding fboss vpd tiny fbossHead vpdHead tinyHead oneOf
-head-number Fboss b s =
+coded-number : (end size : ℕ) (s : List ℕ) → HeadNumber (codedHead end size s)
+unfolding codedHead oneOf
+coded-number end size s =
     either HeadNumber (ltb 0 (length s))
     (λ _. either HeadNumber (eqb (getD s 0 0) 0) (λ _. refl)
     (λ _. either HeadNumber (eqb (getD s 0 0) 255) (λ _. refl)
-    (λ _. either HeadNumber (eqb (getD s 0 0) 250)
+    (λ _. either HeadNumber (eqb (getD s 0 0) end)
     (λ _. either HeadNumber (ltb 1 (length s))
-    (λ _. either HeadNumber (eqb (getD s 1 0) 2) (λ _. either HeadNumber (ltb 3 (length s)) (λ _. tt) (λ _. refl)) (λ _. refl))
+    (λ _. either HeadNumber (eqb (getD s 1 0) size) (λ _. either HeadNumber (leb (2 + size) (length s)) (λ _. tt) (λ _. refl)) (λ _. refl))
     (λ _. refl))
     (λ _. tt))))
     (λ _. refl)
+
+head-number : (f : Format) (b : Bool) (s : List ℕ) → HeadNumber (shape f .head b s)
+unfolding fboss vpd tiny onie vpdHead tinyHead oneOf
+head-number Fboss b s = coded-number 250 2 s
 head-number Vpd b s =
     either HeadNumber (ltb 0 (length s))
     (λ _. either HeadNumber (eqb (getD s 0 0) 0x00) (λ _. tt)
@@ -122,6 +128,7 @@ head-number Tiny b s =
     either HeadNumber (ltb 0 (length s))
     (λ _. either HeadNumber b (λ _. refl) (λ _. either HeadNumber (eqb (getD s 0 0) 0x00) (λ _. refl) (λ _. tt)))
     (λ _. tt)
+head-number Onie b s = coded-number 0xFE 4 s
 
 pub next-number : (f : Format) (b : Bool) (s : List ℕ) → NextNumber (next (shape f) b s)
 unfolding next oneOf
@@ -139,7 +146,7 @@ next-number f b s = heads (shape f .head b s) (head-number f b s)
 -- ---- headers
 
 pub opened-low : (f : Format) (s : List ℕ) → OpenedLow (shape f .opened s)
-unfolding fboss vpd tiny fbossOpened tinyOpened oneOf
+unfolding fboss vpd tiny onie fbossOpened tinyOpened onieOpened oneOf
 opened-low Fboss s =
     either OpenedLow (ltb (length s) 4) (λ _. record { number = refl; place = omega arith })
     (λ _. either OpenedLow (eqb (getD s 0 0) 0xFB && eqb (getD s 1 0) 0xFB)
@@ -155,17 +162,27 @@ opened-low Tiny s =
     (λ _. either OpenedLow (leb 4 (getD s 2 0) && leb (getD s 2 0) (length s)) (λ _. tt) (λ _. record { number = refl; place = omega arith }))
     (λ _. record { number = refl; place = omega arith }))
     (λ _. record { number = refl; place = omega arith }))
+opened-low Onie s =
+    either OpenedLow (ltb (length s) 11) (λ _. record { number = refl; place = omega arith })
+    (λ _. either OpenedLow (sameBytes (part 0 8 s) tlvInfo)
+    (λ _. either OpenedLow (eqb (getD s 8 0) 0x01)
+    (λ _. either OpenedLow (leb (declared s) mostDeclared && leb (11 + declared s) (length s) && ltb (getD s 10 0) 256)
+    (λ _. tt)
+    (λ _. record { number = refl; place = omega arith }))
+    (λ _. record { number = refl; place = omega arith }))
+    (λ _. record { number = refl; place = omega arith }))
 
 -- ---- formats and editions
 
 -- a list that has 16 and 1 has every number of a format or an edition
 module _ (numbers : List ℕ) (sixteen : oneOf numbers 16 ≡ true) (one : oneOf numbers 1 ≡ true) where
   with-number : (e : ℕ) (f : Format) → ChosenNumber numbers (withEdition e f)
-  with-number e f = either (ChosenNumber numbers) (knownEdition e) (λ _. tt) (λ _. one)
+  with-number e f = either (ChosenNumber numbers) (knownEdition e) (λ _. either (ChosenNumber numbers) (leb (shape f .edition) e) (λ _. tt) (λ _. sixteen)) (λ _. one)
 
   pub chosen-number : (f e : ℕ) → ChosenNumber numbers (chosen f e)
   unfolding chosen
   chosen-number f e =
       either (ChosenNumber numbers) (eqb f 1) (λ _. with-number e Fboss)
       (λ _. either (ChosenNumber numbers) (eqb f 2) (λ _. with-number e Vpd)
-      (λ _. either (ChosenNumber numbers) (eqb f 3) (λ _. with-number e Tiny) (λ _. sixteen)))
+      (λ _. either (ChosenNumber numbers) (eqb f 3) (λ _. with-number e Tiny)
+      (λ _. either (ChosenNumber numbers) (eqb f 4) (λ _. with-number e Onie) (λ _. sixteen))))

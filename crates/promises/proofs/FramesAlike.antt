@@ -1,4 +1,4 @@
--- A bad frame is reported alike by every known edition, and a number of the rules is given exactly where the frames and the check are right: only the rules look at
+-- A bad frame is reported alike by every edition that has the format, and a number of the rules is given exactly where the frames and the check are right: only the rules look at
 -- the edition, and they come after every frame.
 -- Assumes nothing.
 use Prim.Native.Nat.{ℕ, _≤_}
@@ -9,21 +9,21 @@ use lib.ListN.{length}
 use lib.Dec.{ltb}
 use borrow.Author.Tests.{ltb-false, le-ltb}
 use Rattle.layout.specs.declared.Format.{Format}
-use Rattle.layout.specs.declared.Chosen.{Chosen}
-use Rattle.layout.specs.declared.Chosen.the-variants.{Known, Unknown}
+use Rattle.layout.specs.declared.Chosen.the-variants.{Known}
 use Rattle.layout.specs.Bytes.{if, all, oneOf}
-use Rattle.layout.specs.Editions.{shape, chosen}
+use Rattle.layout.specs.Editions.{shape}
 use Rattle.layout.specs.Walk.{Raw, content, flat}
 use Rattle.layout.specs.Read.{limit, judge, Read, accepted, refused, bad, readComplete, readAs, readChosen, readImage}
 use Rattle.layout.specs.Calls.{Told, toldChecked, checkedBy, checkImage}
+use Rattle.laws.specs.Grammar.{grammar}
 use Rattle.laws.proofs.Choices.{false-true, either}
 use Rattle.laws.proofs.Formats.{laws}
 use Rattle.laws.proofs.Images.{imageFrom, IsFramed, Way, unframed, framed, way, made-read}
-use Rattle.promises.specs.Words.{KnownEdition, Serves, tellsCheck}
+use Rattle.promises.specs.Words.{Serves, tellsCheck}
 use Rattle.promises.specs.FramesAlike.{Framed, frameNumbers, ruleNumbers, FramesAlike}
 use Rattle.promises.proofs.FormatNumbers.{every}
 use Rattle.promises.proofs.Refusals.{ReadLow, ruleRefusals, ruled-low, unframed-low}
-use Rattle.promises.proofs.Telling.{edition-known, serves-chosen}
+use Rattle.promises.proofs.Telling.{serves-chosen}
 use Rattle.promises.proofs.PublishedRules.{entries-frames, frames-entries}
 
 abbrev tells : Read → Told
@@ -62,6 +62,7 @@ framed-is g image start rs short x =
       rest = x .rest;
       is = x .is;
       closes = x .closes;
+      takes = x .takes;
       made = frames-entries (laws g) false rs (x .frames);
       short = short;
     }
@@ -72,9 +73,11 @@ framed-rule g e image x =
     let w = entries-frames (laws g) (x .made) in
     let start = length (shape g .header (length (flat (w .raws)))) in
     let whole : image ≡ imageFrom (shape g) (flat (w .raws)) (x .closing) (x .rest) = rw (w .flatly) (x .is) in
+    let takes : grammar g .Takes (length (flat (w .raws))) = rw (w .flatly) (x .takes) in
     let read : readAs g e image ≡ readComplete (judge (shape g) e [] (w .raws) start) g start (w .raws)
-    = rw whole (made-read g (laws g) e (w .raws) (x .closing) (x .rest) (x .closes) (w .frames)) in
-    let found : IsFramed g image start (w .raws) = record { closing = x .closing; rest = x .rest; closes = x .closes; is = whole; starts = refl; frames = w .frames } in
+    = rw whole (made-read g (laws g) e (w .raws) (x .closing) (x .rest) (x .closes) takes (w .frames)) in
+    let found : IsFramed g image start (w .raws) =
+    record { closing = x .closing; rest = x .rest; closes = x .closes; takes = takes; is = whole; starts = refl; frames = w .frames } in
     rw read (low-rule (readComplete (judge (shape g) e [] (w .raws) start) g start (w .raws)) (ruled-low g e image start (w .raws) (x .short) found))
 
 -- ---- by how an image is read
@@ -98,23 +101,18 @@ module _ (g : Format) (image : List ℕ) (short : length image ≤ limit) where
 
 -- ---- any format number and edition
 
-chosen-alike : (f d e : ℕ) → KnownEdition d → KnownEdition e → chosen f e ≡ chosen f d
-unfolding chosen
-chosen-alike f d e kd ke = rw (edition-known d kd, edition-known e ke)
-
-read-alike : (d e : ℕ) (image : List ℕ) (x : Chosen) → OfFrame (readChosen x d image) → tells (readChosen x e image) ≡ tells (readChosen x d image)
-read-alike d e image (Known g) h = bounded (ltb limit (length image)) refl h
+read-alike : (d e : ℕ) (g : Format) (image : List ℕ) → OfFrame (readChosen (Known g) d image) → tells (readChosen (Known g) e image) ≡ tells (readChosen (Known g) d image)
+read-alike d e g image h = bounded (ltb limit (length image)) refl h
   where
     bounded : (t : Bool) → ltb limit (length image) ≡ t → OfFrame (if t (λ _. bad 2 0) (λ _. readAs g d image)) →
         tells (if t (λ _. bad 2 0) (λ _. readAs g e image)) ≡ tells (if t (λ _. bad 2 0) (λ _. readAs g d image))
     bounded true q h = refl
     bounded false q h = as-alike g image (ltb-false limit (length image) q) d e h
-read-alike d e image (Unknown n) h = refl
 
-tells-alike : (f d e : ℕ) (image : List ℕ) → KnownEdition d → KnownEdition e → oneOf frameNumbers (tellsCheck f d image .number) ≡ true →
+tells-alike : (f d e : ℕ) (g : Format) (image : List ℕ) → Serves f d g → Serves f e g → oneOf frameNumbers (tellsCheck f d image .number) ≡ true →
     tellsCheck f e image ≡ tellsCheck f d image
 unfolding checkImage readImage
-tells-alike f d e image kd ke h = rw (chosen-alike f d e kd ke) (read-alike d e image (chosen f d) h)
+tells-alike f d e g image sd se h = rw (serves-chosen sd, serves-chosen se) (read-alike d e g image (rw (serves-chosen sd) at h))
 
 tells-rule : (f e : ℕ) (g : Format) (image : List ℕ) → Serves f e g → Framed g image → oneOf ruleNumbers (tellsCheck f e image .number) ≡ true
 unfolding checkImage readImage

@@ -8,11 +8,12 @@ use native.Mathlib.Omega.{arith}
 use lib.ListN.{length, take, drop, length-append}
 use lib.Seq.{take-at, drop-at}
 use Rattle.layout.specs.declared.Format.{Format}
-use Rattle.layout.specs.declared.Format.the-variants.{Fboss, Vpd, Tiny}
+use Rattle.layout.specs.declared.Format.the-variants.{Fboss, Vpd, Tiny, Onie}
 use Rattle.layout.specs.Bytes.{part, partAt}
 use Rattle.layout.specs.Shape.{Shape}
 use Rattle.layout.specs.Fboss.{fboss}
 use Rattle.layout.specs.Tiny.{tiny}
+use Rattle.layout.specs.Onie.{onie}
 use Rattle.layout.specs.Editions.{shape}
 use Rattle.layout.specs.Walk.{Raw, flat}
 use Rattle.layout.specs.Calls.{keyPart, entryOf, entriesOf}
@@ -32,13 +33,14 @@ use Rattle.promises.proofs.PublishedRules.{raw-entry}
 module _ (g : Format) (e p : ℕ) (r : Raw) where
   -- without keys a record's key is empty at its value's place
   keyless-at : (g ≡ Vpd → ⊥) → entryOf (shape g) e p r .key ≡ partAt (entryOf (shape g) e p r .value .place .0) 0
-  unfolding entryOf fboss tiny
+  unfolding entryOf fboss tiny onie
   keyless-at other = at g other
     where
       at : (h : Format) → (h ≡ Vpd → ⊥) → keyPart (shape h .keyed) p r ≡ partAt (p + r .frame .val) 0
       at Fboss other = refl
       at Vpd other = absurd (other refl)
       at Tiny other = refl
+      at Onie other = refl
 
   -- a record's bytes are its entry's
   record-bytes : (pre t : List ℕ) → IsRaw (grammar g) r → length pre ≡ p →

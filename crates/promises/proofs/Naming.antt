@@ -1,4 +1,4 @@
--- The definitions' table of names is document 01's ("Editions and kinds").
+-- The definitions' table of names is document 01's ("Editions and kinds") and document 02's third item.
 -- Assumes nothing.
 use Prim.Native.Nat.{ℕ, zero, suc, _+_, _≤_}
 use mathlib.Core.Path.{_≡_, refl}
@@ -7,20 +7,21 @@ use native.Mathlib.Omega.{arith}
 use lib.Dec.{leb, eqb}
 use borrow.Author.Tests.{leb-true, le-leb, lt-leb, eqb-true, eqb-false}
 use Rattle.layout.specs.declared.Format.{Format}
-use Rattle.layout.specs.declared.Format.the-variants.{Fboss, Vpd, Tiny}
+use Rattle.layout.specs.declared.Format.the-variants.{Fboss, Vpd, Tiny, Onie}
 use Rattle.layout.specs.Bytes.{if, between}
 use Rattle.layout.specs.Fboss.{fboss}
 use Rattle.layout.specs.Vpd.{vpd}
 use Rattle.layout.specs.Tiny.{tiny}
+use Rattle.layout.specs.Onie.{onie}
 use Rattle.layout.specs.Editions.{shape, from, never, sinceIn, reached, names}
 use Rattle.laws.proofs.Choices.{false-true, both}
 use Rattle.promises.specs.Words.{KnownEdition}
-use Rattle.promises.specs.Names.{One, Two, Named, sinceOne, sinceTwo, vpd01, tiny01, tiny10, tiny11, tiny60, tiny61, tiny62, vpdFE, tiny80, tiny81}
+use Rattle.promises.specs.Names.{One, Two, Named, sinceOne, sinceTwo, sinceThree, vpd01, tiny01, tiny10, tiny11, tiny60, tiny61, tiny62, vpdFE, tiny80, tiny81, onie21, onie22, onie23, onie24, onie25, onie2A, onie2B, onie2C, onie2D, onieFD}
 
 -- ---- what 01 names, the table names
 
 pub named-names : (g : Format) (e c : ℕ) → Named g e c → names (shape g) e c ≡ true
-unfolding names sinceIn fboss vpd tiny
+unfolding names sinceIn fboss vpd tiny onie
 named-names Fboss e c (sinceOne le (One.fboss a b)) = rw (le-leb 1 c a, le-leb c 16 b) (le-leb 1 e le)
 named-names Fboss e c (sinceTwo le (Two.fboss a b)) =
     rw (le-leb 1 c (omega arith), lt-leb c 16 (omega arith), le-leb 17 c a, le-leb c 20 b) (le-leb 2 e le)
@@ -34,6 +35,16 @@ named-names Tiny e c (sinceOne le tiny61) = le-leb 1 e le
 named-names Tiny e c (sinceOne le tiny62) = le-leb 1 e le
 named-names Tiny e c (sinceTwo le tiny80) = le-leb 2 e le
 named-names Tiny e c (sinceTwo le tiny81) = le-leb 2 e le
+named-names Onie e c (sinceThree le onie21) = le-leb 3 e le
+named-names Onie e c (sinceThree le onie22) = le-leb 3 e le
+named-names Onie e c (sinceThree le onie23) = le-leb 3 e le
+named-names Onie e c (sinceThree le onie24) = le-leb 3 e le
+named-names Onie e c (sinceThree le onie25) = le-leb 3 e le
+named-names Onie e c (sinceThree le onie2A) = le-leb 3 e le
+named-names Onie e c (sinceThree le onie2B) = le-leb 3 e le
+named-names Onie e c (sinceThree le onie2C) = le-leb 3 e le
+named-names Onie e c (sinceThree le onie2D) = le-leb 3 e le
+named-names Onie e c (sinceThree le onieFD) = le-leb 3 e le
 
 -- ---- what the table names, 01 names
 
@@ -58,7 +69,7 @@ pub each-between : (P : ℕ → Type 0) (n a c : ℕ) → FromTo P n a → betwe
 each-between P n a c h t = let w = in-range a (a + n) c t in from-to P n a c h (w .0) (w .1)
 
 pub names-named : (g : Format) (e c : ℕ) → KnownEdition e → names (shape g) e c ≡ true → Named g e c
-unfolding names sinceIn fboss vpd tiny
+unfolding names sinceIn fboss vpd tiny onie
 names-named Fboss e c k h = go (between 1 16 c) (between 17 20 c) refl refl h
   where
     go : (b₁ b₂ : Bool) → between 1 16 c ≡ b₁ → between 17 20 c ≡ b₂ →
@@ -87,6 +98,18 @@ names-named Tiny e c k h = go (between 0x01 0x01 c) (between 0x10 0x11 c) (betwe
         let le = leb-true 2 e h in
         each-between (Named Tiny e) 1 0x80 c (sinceTwo le tiny80, sinceTwo le tiny81) t₄
     go false false false false t₁ t₂ t₃ t₄ h = false-true h
+names-named Onie e c k h = go (between 0x21 0x25 c) (between 0x2A 0x2D c) (between 0xFD 0xFD c) refl refl refl h
+  where
+    go : (b₁ b₂ b₃ : Bool) → between 0x21 0x25 c ≡ b₁ → between 0x2A 0x2D c ≡ b₂ → between 0xFD 0xFD c ≡ b₃ →
+        reached (if b₁ (λ _. from 3) (λ _. if b₂ (λ _. from 3) (λ _. if b₃ (λ _. from 3) (λ _. never)))) e ≡ true → Named Onie e c
+    go true b₂ b₃ t₁ t₂ t₃ h =
+        let le = leb-true 3 e h in
+        each-between (Named Onie e) 4 0x21 c (sinceThree le onie21, (sinceThree le onie22, (sinceThree le onie23, (sinceThree le onie24, sinceThree le onie25)))) t₁
+    go false true b₃ t₁ t₂ t₃ h =
+        let le = leb-true 3 e h in
+        each-between (Named Onie e) 3 0x2A c (sinceThree le onie2A, (sinceThree le onie2B, (sinceThree le onie2C, sinceThree le onie2D))) t₂
+    go false false true t₁ t₂ t₃ h = each-between (Named Onie e) 0 0xFD c (sinceThree (leb-true 3 e h) onieFD) t₃
+    go false false false t₁ t₂ t₃ h = false-true h
 
 pub unnamed-names : (g : Format) (e c : ℕ) → KnownEdition e → (Named g e c → ⊥) → names (shape g) e c ≡ false
 unnamed-names g e c k not = go (names (shape g) e c) refl

@@ -10,11 +10,11 @@ use Rattle.layout.specs.Calls.{entryOf, entriesOf}
 use Rattle.laws.specs.Contents.{said}
 use Rattle.laws.proofs.Judging.{names-up}
 use Rattle.laws.proofs.Calls.{Found, check-found}
-use Rattle.promises.specs.Words.{KnownEdition}
+use Rattle.promises.specs.Words.{KnownEdition, Serves}
 use Rattle.promises.specs.OlderReads.{Alike, AllAlike, none, also, Older, OlderReads}
 use Rattle.laws.proofs.Records.{entries-count}
 use Rattle.promises.proofs.Accepting.{accepts, lists}
-use Rattle.promises.proofs.Telling.{edition-known, chosen-serves, counts-accepted}
+use Rattle.promises.proofs.Telling.{serves-chosen, chosen-serves, counts-accepted}
 use Rattle.promises.proofs.Naming.{named-names, unnamed-names}
 use Rattle.promises.proofs.Older.{older-reading}
 
@@ -39,11 +39,11 @@ module _ (o n : ℕ) (image : List ℕ) (g : Format) (k : KnownEdition o) (le : 
   all-alike p [] = none
   all-alike p (r ∷ rs) = also (entry-alike p r) (all-alike (p + r .frame .size) rs)
 
-older : (f o n : ℕ) (image : List ℕ) (count : ℕ) → KnownEdition o → o ≤ n → Found f n image count → Older f o n image count
-older f o n image count k le x =
+older : (f o n : ℕ) (format : Format) (image : List ℕ) (count : ℕ) → Serves f o format → o ≤ n → Found f n image count → Older f o n image count
+older f o n format image count s le x =
     let g = x .format in
     let r = x .reading in
-    let r′ = older-reading f o n image g (x .start) (x .raws) (edition-known o k) le r in
+    let r′ = older-reading f o n image g format (x .start) (x .raws) (serves-chosen s) le r in
     record {
       format = g;
       serves = chosen-serves f o g (r′ .known);
@@ -52,8 +52,8 @@ older f o n image count k le x =
       newer = entriesOf (shape g) n (x .start) (x .raws);
       counted = (entries-count (shape g) o (x .start) (x .raws) ∙ sym (x .count), entries-count (shape g) n (x .start) (x .raws) ∙ sym (x .count));
       listed = (lists f o image g (x .start) (x .raws) r′, lists f n image g (x .start) (x .raws) r);
-      alike = all-alike o n image g k le (x .start) (x .raws);
+      alike = all-alike o n image g (s .edition) le (x .start) (x .raws);
     }
 
 pub older-reads : OlderReads
-older-reads f o n image count k le q = older f o n image count k le (check-found f n image count (counts-accepted f n image count q))
+older-reads f o n format image count s le q = older f o n format image count s le (check-found f n image count (counts-accepted f n image count q))

@@ -37,9 +37,10 @@ entries-shorter S entries = simp length-append (omega arith)
 pub never-unwritten : {A : Type 0} {r : Refusal} {m : ℕ} → Unwritten r ≡ Wrote m → A
 never-unwritten e = let z : _≡_ {A = ℕ} 0 1 = cc in absurd (omega arith)
 
--- an output that took an image of so many bytes
-pub record Took (image out : List ℕ) (m : ℕ) (memory : List ℕ) : Type 0 where
+-- an output that took an image of so many bytes, no more than its format allows
+pub record Took (S : Shape) (image out : List ℕ) (m : ℕ) (memory : List ℕ) : Type 0 where
   pub long : m ≡ length image
+  pub allowed : length image ≤ S .most
   pub fits : length image ≤ length out
   pub padding : memory ≡ image ++ replicate (length out - m) 0xFF
 
@@ -62,16 +63,16 @@ pub put-fitting : (S : Shape) (image out : List ℕ) → length image ≤ S .mos
 unfolding put
 put-fitting S image out allowed fits = rw (le-leb (length image) (S .most) allowed, le-leb (length image) (length out) fits)
 
-pub put-took : (S : Shape) (image out : List ℕ) (m : ℕ) → put S image out .answer ≡ Wrote m → Took image out m (put S image out .memory)
+pub put-took : (S : Shape) (image out : List ℕ) (m : ℕ) → put S image out .answer ≡ Wrote m → Took S image out m (put S image out .memory)
 put-took S image out m q =
     let fits = put-fits S image out m q in
     let is = put-fitting S image out (fits .0) (fits .1) in
     let long : m ≡ length image = cc in
-    record { long = long; fits = fits .1; padding = rw (is, long) }
+    record { long = long; allowed = fits .0; fits = fits .1; padding = rw (is, long) }
 
 -- an output that took the image of lawful and complete entries is read as those, whole and up to the length given
 pub took-reads : (f e : ℕ) (g : Format) (rs : List Raw) (out : List ℕ) (m : ℕ) (memory : List ℕ) → chosen f e ≡ Known g → Frames (shape g) (grammar g) false rs →
-    Lawful (shape g) e [] (map content rs) → complete (shape g .required) (codesOf rs) ≡ true → length out ≤ limit → Took (imageOf (shape g) (flat rs)) out m memory →
+    Lawful (shape g) e [] (map content rs) → complete (shape g .required) (codesOf rs) ≡ true → length out ≤ limit → Took (shape g) (imageOf (shape g) (flat rs)) out m memory →
     Reads f e memory (map content rs) × Reads f e (take m memory) (map content rs)
 took-reads f e g rs out m memory k fs lw cm short t =
     let image : List ℕ = imageOf (shape g) (flat rs) in
@@ -80,11 +81,12 @@ took-reads f e g rs out m memory k fs lw cm short t =
     let front : take m memory ≡ imageFrom (shape g) (flat rs) (shape g .closing) []
     = ap (take m) (t .padding) ∙ take-at image pad m (sym (t .long)) ∙ sym (append-nil image) ∙ image-made (shape g) (flat rs) [] in
     let long : length memory ≡ length image + length pad = ap length (t .padding) ∙ length-append image pad in
+    let takes : grammar g .Takes (length (flat rs)) = laws g .takes-made (flat rs) (t .allowed) in
     let read : (x : List ℕ) → length (imageFrom (shape g) (flat rs) (shape g .closing) x) ≤ limit → Reads f e (imageFrom (shape g) (flat rs) (shape g .closing) x) (map content rs)
     = (λ x le.
     let h = length (shape g .header (length (flat rs))) in
     reads f e (imageFrom (shape g) (flat rs) (shape g .closing) x) g h rs
-    (accepted-reading f e (imageFrom (shape g) (flat rs) (shape g .closing) x) g h rs (made-reading f e g rs (shape g .closing) x k (laws g .closing-made) fs lw cm le))) in
+    (accepted-reading f e (imageFrom (shape g) (flat rs) (shape g .closing) x) g h rs (made-reading f e g rs (shape g .closing) x k (laws g .closing-made) takes fs lw cm le))) in
     let fitsWhole : length memory ≤ limit = omega (arith, length-replicate {A = ℕ} (length out - m) 0xFF, t .fits, t .long) in
     let fitsFront : length (take m memory) ≤ limit = rw (t .padding, take-at image pad m (sym (t .long))) (omega (arith, t .fits)) in
     (rw whole (read pad (rw whole at fitsWhole)), rw front (read [] (rw front at fitsFront)))

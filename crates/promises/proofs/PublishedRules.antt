@@ -85,6 +85,7 @@ of-grammar f e image n x =
             headed = refl;
             is = m .is;
             closes = m .closes;
+            takes = m .takes;
             made = frames-entries (laws g) false rs (m .frames);
             lawful = m .lawful;
             required = complete-among (map content rs) (shape g .required) (rw (said-codes rs) (m .required));
@@ -99,7 +100,7 @@ is-read f e g image cs k p w =
     let S : Shape = shape g in
     let h : ℕ = length (S .header (length (flat (w .raws)))) in
     let whole : image ≡ imageFrom S (flat (w .raws)) (p .closing) (p .rest) = rw (w .flatly, ← p .headed) (p .is) in
-    let r = made-reading f e g (w .raws) (p .closing) (p .rest) k (p .closes) (w .frames) (rw (w .says) (p .lawful)) (rw (← said-codes (w .raws), w .says) (among-complete cs (S .required) (p .required))) (rw whole at (p .short)) in
+    let r = made-reading f e g (w .raws) (p .closing) (p .rest) k (p .closes) (rw (w .flatly) (p .takes)) (w .frames) (rw (w .says) (p .lawful)) (rw (← said-codes (w .raws), w .says) (among-complete cs (S .required) (p .required))) (rw whole at (p .short)) in
     rw (whole, ← w .says) (reads f e (imageFrom S (flat (w .raws)) (p .closing) (p .rest)) g h (w .raws) (accepted-reading f e (imageFrom S (flat (w .raws)) (p .closing) (p .rest)) g h (w .raws) r))
 
 pub published-rules : PublishedRules

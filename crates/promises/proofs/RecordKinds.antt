@@ -1,4 +1,4 @@
--- Kind and reading of every record are those of document 01.
+-- Kind and reading of every record are those of document 01 and of document 02's third item.
 -- Assumes nothing.
 use Prim.Native.Nat.{ℕ, zero, suc, _+_, _*_, _/_, _%_, _≤_}
 use mathlib.Core.Path.{_≡_, refl, sym, _∙_}
@@ -10,13 +10,14 @@ use lib.ListN.{length, getD}
 use lib.Dec.{leb, eqb}
 use borrow.Author.Tests.{leb-true, leb-false, le-leb, lt-leb, eqb-true}
 use Rattle.layout.specs.declared.Format.{Format}
-use Rattle.layout.specs.declared.Format.the-variants.{Fboss, Vpd, Tiny}
+use Rattle.layout.specs.declared.Format.the-variants.{Fboss, Vpd, Tiny, Onie}
 use Rattle.layout.specs.declared.Reading.the-variants.{Number, Addresses, Tests}
 use Rattle.layout.specs.Bytes.{between, oneOf, part, highFirst}
 use Rattle.layout.specs.Shape.{Label}
 use Rattle.layout.specs.Fboss.{fboss, fbossRule, fbossReading}
 use Rattle.layout.specs.Vpd.{vpd}
 use Rattle.layout.specs.Tiny.{tiny, tinyReading, passed}
+use Rattle.layout.specs.Onie.{onie, onieRule, onieReading}
 use Rattle.layout.specs.Editions.{shape, names, kind}
 use Rattle.layout.specs.Walk.{Raw, Content, content, labelOf}
 use Rattle.layout.specs.Read.{readerRule}
@@ -29,8 +30,8 @@ use Rattle.laws.proofs.Records.{entries-count}
 use Rattle.laws.proofs.Formats.{laws}
 use Rattle.laws.proofs.Calls.{Found, check-found}
 use Rattle.promises.specs.Words.{FormatNumber, Serves}
-use Rattle.promises.specs.Names.{One, Two, Named, sinceOne, sinceTwo, tiny01, tiny10, tiny11, tiny60, tiny61, tiny62, tiny80, tiny81}
-use Rattle.promises.specs.Kinds.{base, FbossMeans, VpdMeans, TinyMeans, Means, Marked, MarkedList, Kinds}
+use Rattle.promises.specs.Names.{One, Two, Named, sinceOne, sinceTwo, sinceThree, tiny01, tiny10, tiny11, tiny60, tiny61, tiny62, tiny80, tiny81, onie21, onie22, onie23, onie24, onie25, onie2A, onie2B, onie2C, onie2D, onieFD}
+use Rattle.promises.specs.Kinds.{base, FbossMeans, VpdMeans, TinyMeans, OnieMeans, Means, Marked, MarkedList, Kinds}
 use Rattle.promises.proofs.Accepting.{lists, records-say}
 use Rattle.promises.proofs.Naming.{FromTo, each-between, named-names, unnamed-names}
 use Rattle.promises.proofs.Telling.{chosen-serves, counts-accepted}
@@ -53,10 +54,10 @@ base-is : (a b c d e f : ℕ) (t : List ℕ) → highFirst 0 (part 0 6 (a ∷ b 
 unfolding highFirst part
 base-is a b c d e f t = omega arith
 
--- the two bytes after them
-count-is : (a b c d e f g h : ℕ) → highFirst 0 (part 6 2 (a ∷ b ∷ c ∷ d ∷ e ∷ f ∷ g ∷ h ∷ [])) ≡ g * 256 + h
-unfolding highFirst part
-count-is a b c d e f g h = omega arith
+-- two bytes as one number
+two-bytes : (a b : ℕ) → highFirst 0 (a ∷ b ∷ []) ≡ a * 256 + b
+unfolding highFirst
+two-bytes a b = omega arith
 
 -- ---- FBOSS v5
 
@@ -65,7 +66,7 @@ ruled-length : (n k a c : ℕ) (v : List ℕ) → FromTo (λ c. fbossRule c v �
 ruled-length n k a c v is t rule = eqb-true (length v) n (sym (each-between (λ c. fbossRule c v ≡ eqb (length v) n) k a c is t) ∙ rule)
 
 fboss-means : (e c : ℕ) (v : List ℕ) → Named Fboss e c → fbossRule c v ≡ true → FbossMeans c v (fbossReading c v)
-unfolding fbossReading fbossRule oneOf
+unfolding fbossReading fbossRule oneOf part
 fboss-means e c v (sinceOne le (One.fboss a z)) rule = go (leb 8 c) (leb c 10) refl refl
   where
     go : (s t : Bool) → leb 8 c ≡ s → leb c 10 ≡ t → FbossMeans c v (fbossReading c v)
@@ -79,7 +80,7 @@ fboss-means e c v (sinceTwo le (Two.fboss a z)) rule =
     rw (lt-leb c 10 (omega arith), le-leb 8 c (omega arith), le-leb 17 c a, le-leb c 20 z)
     (of-bytes 8 (λ v. FbossMeans c v (Addresses (highFirst 0 (part 0 6 v)) (highFirst 0 (part 6 2 v))))
     (λ b₀ b₁ b₂ b₃ b₄ b₅ b₆ b₇.
-    rw (base-is b₀ b₁ b₂ b₃ b₄ b₅ (b₆ ∷ b₇ ∷ []), count-is b₀ b₁ b₂ b₃ b₄ b₅ b₆ b₇) (FbossMeans.addresses b₀ b₁ b₂ b₃ b₄ b₅ b₆ b₇ a z))
+    rw (base-is b₀ b₁ b₂ b₃ b₄ b₅ (b₆ ∷ b₇ ∷ []), two-bytes b₆ b₇) (FbossMeans.addresses b₀ b₁ b₂ b₃ b₄ b₅ b₆ b₇ a z))
     v (ruled-length 8 3 17 c v (refl, (refl, (refl, refl))) (rw (le-leb 17 c a, le-leb c 20 z)) rule))
 
 -- ---- Tiny version 2
@@ -111,25 +112,46 @@ tiny-means e c lens v (sinceTwo le tiny80) s =
 tiny-means e c lens v (sinceTwo le tiny81) s =
     tagged 0x81 (omega arith) s (λ b₀ b₁ b₂ b₃ b₄ b₅ b₆ b₇. TinyMeans.batched b₀ b₁ b₂ b₃ b₄ b₅ b₆ b₇ (inr refl))
 
+-- ---- ONIE
+
+onie-means : (e c : ℕ) (v : List ℕ) → Named Onie e c → onieRule c v ≡ true → OnieMeans c v (onieReading c v)
+unfolding onieReading onieRule oneOf part
+onie-means e c v (sinceThree le onie21) rule = OnieMeans.text (inl (omega arith, omega arith))
+onie-means e c v (sinceThree le onie22) rule = OnieMeans.text (inl (omega arith, omega arith))
+onie-means e c v (sinceThree le onie23) rule = OnieMeans.text (inl (omega arith, omega arith))
+onie-means e c v (sinceThree le onie24) rule =
+    of-bytes 6 (λ v. OnieMeans 0x24 v (Addresses (highFirst 0 (part 0 6 v)) 1))
+    (λ b₀ b₁ b₂ b₃ b₄ b₅. rw (base-is b₀ b₁ b₂ b₃ b₄ b₅ []) (OnieMeans.addresses b₀ b₁ b₂ b₃ b₄ b₅ refl))
+    v (eqb-true (length v) 6 rule)
+onie-means e c v (sinceThree le onie25) rule = OnieMeans.text (inr (inl refl))
+onie-means e c v (sinceThree le onie2A) rule =
+    of-bytes 2 (λ v. OnieMeans 0x2A v (Number (highFirst 0 (part 0 2 v)))) (λ a b. rw (two-bytes a b) (OnieMeans.number a b refl)) v (eqb-true (length v) 2 rule)
+onie-means e c v (sinceThree le onie2B) rule = OnieMeans.text (inr (inr (omega arith, omega arith)))
+onie-means e c v (sinceThree le onie2C) rule = OnieMeans.text (inr (inr (omega arith, omega arith)))
+onie-means e c v (sinceThree le onie2D) rule = OnieMeans.text (inr (inr (omega arith, omega arith)))
+onie-means e c v (sinceThree le onieFD) rule = OnieMeans.plain refl
+
 -- ---- any format
 
 -- a named entry of the grammar that meets its rule has the reading of 01
 means : (g : Format) (e : ℕ) (c : Content) (lens : List ℕ) → Named g e (c .code) → grammar g .Says (c .code) lens (length (c .value)) →
     readerRule (shape g) c ≡ true → Means g (c .code) (c .value) (shape g .reading (c .code) (c .value))
-unfolding fboss vpd tiny readerRule
+unfolding fboss vpd tiny onie readerRule
 means Fboss e c lens n s rule = fboss-means e (c .code) (c .value) n rule
 means Vpd e c lens n s rule = VpdMeans.plain
 means Tiny e c lens n s rule = tiny-means e (c .code) lens (c .value) n s
+means Onie e c lens n s rule = onie-means e (c .code) (c .value) n rule
 
 -- the length bytes of an entry say the length of its value
 raw-says : (g : Format) (r : Raw) (i : IsRaw (grammar g) r) → grammar g .Says (content r .code) (i .lens) (length (content r .value))
 raw-says g r i = rw (raw-content (laws g) r i) (i .says)
 
 number-is : (f : ℕ) (g : Format) → FormatNumber f g → shape g .number ≡ f
-unfolding fboss vpd tiny
+unfolding fboss vpd tiny onie
 number-is f Fboss FormatNumber.fboss = refl
 number-is f Vpd FormatNumber.vpd = refl
 number-is f Tiny FormatNumber.tiny = refl
+number-is f Onie FormatNumber.onie = refl
 
 module _ (f e : ℕ) (g : Format) (serves : Serves f e g) (image : List ℕ) where
   record-marked : (p : ℕ) (r : Raw) → IsRaw (grammar g) r → Ruled (shape g) e (content r) → said image (entryOf (shape g) e p r) ≡ content r →

@@ -17,18 +17,18 @@ use Rattle.layout.specs.declared.Next.the-variants.{Framed, Ended, Broken}
 use Rattle.layout.specs.declared.Opened.the-variants.{Room, Closed}
 use Rattle.layout.specs.declared.Refusal.{Refusal}
 use Rattle.layout.specs.Bytes.{if, all, oneOf, part}
-use Rattle.layout.specs.Shape.{Label, next}
+use Rattle.layout.specs.Shape.{Label, next, Judged, fine, faulty}
 use Rattle.layout.specs.Editions.{shape, chosen, names}
 use Rattle.layout.specs.Walk.{Raw, Content, content, labelOf, flat, Walked, done, stop, more, turn, walks, walk}
-use Rattle.layout.specs.Read.{limit, seenBefore, readerRule, fault, Judged, fine, faulty, orElse, judge, complete, codesOf, Read, accepted, refused, readComplete, readAs, readChosen, readImage}
+use Rattle.layout.specs.Read.{limit, seenBefore, readerRule, fault, orElse, judge, complete, codesOf, Read, accepted, refused, readComplete, readAs, readChosen, readImage}
 use Rattle.laws.specs.Grammar.{grammar}
 use Rattle.laws.proofs.Choices.{either}
 use Rattle.laws.proofs.Formats.{laws}
 use Rattle.laws.proofs.Frames.{raw-size, framed-in}
 use Rattle.laws.proofs.Passes.{part-most}
 use Rattle.laws.proofs.Walking.{Frames}
-use Rattle.laws.proofs.Images.{IsFramed, entries-in, Unframed, badHeader, badFrame, badCheck, Way, unframed, framed, way}
-use Rattle.laws.proofs.Rooms.{closing-short, room-inside}
+use Rattle.laws.proofs.Images.{IsFramed, entries-in, Unframed, badHeader, badFrame, badRoom, badCheck, Way, unframed, framed, way}
+use Rattle.laws.proofs.Rooms.{closing-short, room-inside, filled-five}
 use Rattle.promises.specs.Numbers.{imageNumbers}
 use Rattle.promises.specs.FramesAlike.{frameNumbers}
 use Rattle.promises.proofs.FormatNumbers.{Low, every, NextNumber, OpenedLow, ChosenNumber, next-number, opened-low, chosen-number}
@@ -135,6 +135,7 @@ unfolding oneOf
 unframed-low f img r short (badHeader o) = let l : OpenedLow (Closed r) = rw o at (opened-low f img) in record { number = l .number; place = omega (arith, l .place) }
 unframed-low f img _ short (badFrame {start} {end} {n} {p} o w) =
     let l : WalkedLow limit (stop n p) = rw w at (walk-low f img start end short o) in record { number = l .number; place = omega (arith, l .place) }
+unframed-low f img _ short (badRoom {end = end} {p = p} {n = n} {q = q} o w t) = let five = filled-five f p end n q t in record { number = rw (five .0); place = omega (arith, five .1) }
 unframed-low f img _ short (badCheck {start} {end} {p} {rs} o w t) =
     let l : WalkedLow limit (done rs p) = rw w at (walk-low f img start end short o) in record { number = refl; place = omega (arith, closing-short f) }
 

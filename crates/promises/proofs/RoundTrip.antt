@@ -9,23 +9,24 @@ use lib.ListN.{length, take}
 use lib.Dec.{ltb}
 use borrow.Author.Tests.{ltb-false, eqb-true, ne-eqb}
 use Rattle.layout.specs.declared.Format.{Format}
-use Rattle.layout.specs.declared.Format.the-variants.{Fboss, Vpd, Tiny}
+use Rattle.layout.specs.declared.Format.the-variants.{Fboss, Vpd, Tiny, Onie}
 use Rattle.layout.specs.declared.Field.{Field}
 use Rattle.layout.specs.declared.Chosen.{Chosen}
 use Rattle.layout.specs.declared.Chosen.the-variants.{Known, Unknown}
 use Rattle.layout.specs.declared.Made.the-variants.{Wrote}
 use Rattle.layout.specs.Bytes.{if, refusal}
-use Rattle.layout.specs.Shape.{Shape}
+use Rattle.layout.specs.Shape.{Shape, Judged, fine, faulty}
 use Rattle.layout.specs.Fboss.{fboss}
 use Rattle.layout.specs.Vpd.{vpd}
 use Rattle.layout.specs.Tiny.{tiny}
+use Rattle.layout.specs.Onie.{onie}
 use Rattle.layout.specs.Editions.{shape, chosen}
 use Rattle.layout.specs.Walk.{Content, content}
-use Rattle.layout.specs.Read.{limit, Judged, fine, faulty, complete}
+use Rattle.layout.specs.Read.{limit, complete}
 use Rattle.layout.specs.Write.{Outcome, refuse, judgeFields, contentsOf, contentCodes, entriesBytes, imageOf, put, fieldContent, writeJudged, writeAs, writeChosen, writeImage}
 use Rattle.laws.proofs.Writing.{fresh, fresh-flat, fields-fine, fresh-frames}
 use Rattle.laws.proofs.Formats.{laws}
-use Rattle.laws.proofs.Calls.{Stands, one, two, three, chosen-stands}
+use Rattle.laws.proofs.Calls.{Stands, one, two, three, four, chosen-stands}
 use Rattle.promises.specs.Words.{Reads}
 use Rattle.promises.specs.RoundTrip.{fieldSays, RoundTrip}
 use Rattle.promises.proofs.Telling.{counts-written}
@@ -35,10 +36,11 @@ use Rattle.promises.proofs.Output.{entries-shorter, Took, put-took, nev
 -- ---- what a field says
 
 field-said : (f : ℕ) (g : Format) (values : List ℕ) (x : Field) → Stands f g → fieldContent (shape g) values x ≡ fieldSays f values x
-unfolding fboss vpd tiny
+unfolding fboss vpd tiny onie
 field-said f Fboss values x (one e) = rw (ne-eqb f 2 (λ q. let z = eqb-true f 1 e in omega arith))
 field-said f Vpd values x (two e₁ e₂) = rw e₂
 field-said f Tiny values x (three e₁ e₂ e₃) = rw e₂
+field-said f Onie values x (four e₁ e₂ e₃ e₄) = rw e₂
 
 pub fields-said : (f : ℕ) (g : Format) (values : List ℕ) (xs : List Field) → Stands f g → contentsOf (shape g) values xs ≡ map (fieldSays f values) xs
 fields-said f g values [] s = refl
@@ -52,7 +54,7 @@ pub record Done (f e : ℕ) (xs : List Field) (values out : List ℕ) (n : ℕ) 
   pub short : length out ≤ limit
   pub judged : judgeFields (shape format) e values false [] xs 0 ≡ fine
   pub required : complete (shape format .required) (contentCodes (contentsOf (shape format) values xs)) ≡ true
-  pub took : Took (imageOf (shape format) (entriesBytes (shape format) (contentsOf (shape format) values xs))) out n (writeImage f e xs values out .memory)
+  pub took : Took (shape format) (imageOf (shape format) (entriesBytes (shape format) (contentsOf (shape format) values xs))) out n (writeImage f e xs values out .memory)
 
 pub write-done : (f e : ℕ) (xs : List Field) (values out : List ℕ) (n : ℕ) → writeImage f e xs values out .answer ≡ Wrote n → Done f e xs values out n
 unfolding writeImage writeAs

@@ -1,4 +1,4 @@
--- The definitions' tests of named entries are document 01's rules.
+-- The definitions' tests of named entries are document 01's rules and those of document 02's first and third items.
 -- Assumes nothing.
 use Prim.Native.Nat.{ℕ, zero, suc, _+_, _-_, _*_, _/_, _≤_, _<_}
 use mathlib.Core.Path.{_≡_, refl}
@@ -6,26 +6,27 @@ use mathlib.Core.List.{List, [], _∷_}
 use mathlib.Core.Logic.{_⊎_, inl, inr}
 use mathlib.Core.Bool.{Bool, true, false, _&&_, _||_, and-assoc, or-assoc}
 use native.Mathlib.Omega.{arith}
-use lib.ListN.{length, getD, drop, drop-of-length-le}
+use lib.ListN.{length, getD, drop, replicate, drop-of-length-le}
 use lib.Seq.{drop-cons}
 use lib.Dec.{ltb, leb, eqb}
 use borrow.Author.Tests.{ltb-true, ltb-false, lt-ltb, le-ltb, leb-true, le-leb, eqb-true, eqb-false, eq-eqb}
 use Rattle.layout.specs.declared.Format.{Format}
-use Rattle.layout.specs.declared.Format.the-variants.{Fboss, Vpd, Tiny}
+use Rattle.layout.specs.declared.Format.the-variants.{Fboss, Vpd, Tiny, Onie}
 use Rattle.layout.specs.Bytes.{if, between, all, oneOf}
 use Rattle.layout.specs.Fboss.{fboss, fbossRule, dateRule, digit, twoDigits, printable}
 use Rattle.layout.specs.Vpd.{vpd, vpdReaderKey, vpdRule, keyByte}
 use Rattle.layout.specs.Tiny.{tiny, tinyRule, tinyTakes, revisionRule, batch}
+use Rattle.layout.specs.Onie.{onie, onieRule, formed, dateForm, capital}
 use Rattle.layout.specs.Editions.{shape}
 use Rattle.layout.specs.Walk.{Content}
 use Rattle.layout.specs.Read.{readerRule}
 use Rattle.layout.specs.Write.{writerRule}
 use Rattle.layout.specs.Edit.{editRule}
 use Rattle.laws.specs.Grammar.{grammar, EntryOf, Each, none, also, TinySays}
-use Rattle.laws.proofs.Choices.{either, both}
+use Rattle.laws.proofs.Choices.{false-true, either, both}
 use Rattle.laws.proofs.Vpd.{writer-key}
-use Rattle.promises.specs.Names.{One, Two, Named, sinceOne, sinceTwo, vpd01, tiny01, tiny10, tiny11, tiny60, tiny61, tiny62, vpdFE, tiny80, tiny81}
-use Rattle.promises.specs.Rules.{Exactly, Between, Printable, TextCode, KeyByte, FbossValue, VpdKey, VpdValue, Revision, TinyValue, KeyRule, AlphabetRule, ValueRule, LengthRule, Rules}
+use Rattle.promises.specs.Names.{One, Two, Named, sinceOne, sinceTwo, sinceThree, vpd01, tiny01, tiny10, tiny11, tiny60, tiny61, tiny62, vpdFE, tiny80, tiny81, onie21, onie22, onie23, onie24, onie25, onie2A, onie2B, onie2C, onie2D, onieFD}
+use Rattle.promises.specs.Rules.{Exactly, Between, Printable, TextCode, KeyByte, FbossValue, VpdKey, VpdValue, Revision, TinyValue, OnieValue, KeyRule, AlphabetRule, ValueRule, LengthRule, Rules}
 use Rattle.promises.proofs.Naming.{FromTo, each-between}
 
 -- ---- a test is exactly what it tests
@@ -101,22 +102,43 @@ tells-long n v = tells-both (tells-eq (length v) n) (printables v)
 digits : (v : List ℕ) → Tells (all digit v) (Each (Between 0x30 0x39) v)
 digits v = tells-all (tells-between 0x30 0x39) v
 
--- what holds of every list of n digits, digit by digit
-abbrev OfDigits : ℕ → (List ℕ → Type 0) → Type 0
-OfDigits zero P = P []
-OfDigits (suc n) P = (a : ℕ) → a ≤ 9 → OfDigits n (λ bs. P ((0x30 + a) ∷ bs))
+-- what holds of every byte that a byte of a form stands for, and of every list of a form, digit by digit
+abbrev OfByte : Bool → ℕ → (ℕ → Type 0) → Type 0
+OfByte true x P = (a : ℕ) → a ≤ 9 → P (0x30 + a)
+OfByte false x P = P x
 
-of-digits : (n : ℕ) (P : List ℕ → Type 0) → OfDigits n P → (v : List ℕ) → length v ≡ n → Each (Between 0x30 0x39) v → P v
-of-digits zero P h [] q ds = h
-of-digits zero P h (b ∷ bs) q ds = absurd (omega arith)
-of-digits (suc n) P h [] q ds = absurd (omega arith)
-of-digits (suc n) P h (b ∷ bs) q (also d ds) =
+abbrev OfForm : List ℕ → (List ℕ → Type 0) → Type 0
+OfForm [] P = P []
+OfForm (x ∷ xs) P = OfByte (eqb x 0x30) x (λ b. OfForm xs (λ bs. P (b ∷ bs)))
+
+of-byte : (t : Bool) (x b : ℕ) (P : ℕ → Type 0) → OfByte t x P → if t (λ _. digit b) (λ _. eqb b x) ≡ true → P b
+of-byte true x b P h q =
+    let d = tells-between 0x30 0x39 b .to q in
     let is : 0x30 + (b - 0x30) ≡ b = omega arith in
-    rw is at (of-digits n (λ bs. P ((0x30 + (b - 0x30)) ∷ bs)) (h (b - 0x30) (omega arith)) bs (omega arith) ds)
+    rw is at (h (b - 0x30) (omega arith))
+of-byte false x b P h q = rw (eqb-true b x q) h
+
+of-form : (form : List ℕ) (P : List ℕ → Type 0) → OfForm form P → (v : List ℕ) → formed form v ≡ true → P v
+unfolding formed
+of-form [] P h [] q = h
+of-form [] P h (b ∷ bs) q = false-true q
+of-form (x ∷ xs) P h [] q = false-true q
+of-form (x ∷ xs) P h (b ∷ bs) q =
+    let w = both (if (eqb x 0x30) (λ _. digit b) (λ _. eqb b x)) (formed xs bs) q in
+    of-form xs (λ bs. P (b ∷ bs)) (of-byte (eqb x 0x30) x b (λ b. OfForm xs (λ bs. P (b ∷ bs))) h (w .0)) bs (w .1)
+
+-- so many digits are a form of that many zeros
+digits-formed : (v : List ℕ) → all digit v ≡ true → formed (replicate (length v) 0x30) v ≡ true
+unfolding formed all
+digits-formed [] h = refl
+digits-formed (b ∷ bs) h = let w = both (digit b) (all digit bs) h in rw (w .0, digits-formed bs (w .1))
 
 -- a digit as it stands in a value
 digit-byte : (a : ℕ) → a ≤ 9 → Between 0x30 0x39 (0x30 + a)
 digit-byte a a9 = (omega arith, omega arith)
+
+digit-passes : (a : ℕ) → a ≤ 9 → digit (0x30 + a) ≡ true
+digit-passes a a9 = tells-between 0x30 0x39 (0x30 + a) .from (digit-byte a a9)
 
 -- the number that two digits show
 two-digits : (m n : ℕ) → (0x30 + m - 0x30) * 10 + (0x30 + n - 0x30) ≡ m * 10 + n
@@ -136,10 +158,10 @@ date-kept v h = go (tells-date v .to h)
   where
     go : Dated v → FbossValue 13 v
     go (((eight, ds), month), day) =
-        of-digits 8 (λ v. Between 1 12 (twoDigits 4 v) → Between 1 31 (twoDigits 6 v) → FbossValue 13 v)
+        of-form (replicate 8 0x30) (λ v. Between 1 12 (twoDigits 4 v) → Between 1 31 (twoDigits 6 v) → FbossValue 13 v)
         (λ a a9 b b9 c c9 d d9 m m9 n n9 x x9 y y9 month day.
         FbossValue.date a b c d m n x y refl a9 b9 c9 d9 m9 n9 x9 y9 (rw (two-digits m n) at month) (rw (two-digits x y) at day))
-        v eight ds month day
+        v (rw eight at (digits-formed v (digits v .from ds))) month day
 
 -- 01's line of text codes as a test
 tells-text : (code : ℕ) → Tells (between 1 2 code || (between 6 7 code || (between 11 12 code || between 14 16 code))) (TextCode code)
@@ -284,6 +306,68 @@ tiny-passes {v} (TinyValue.identity s p major minor x y w r) = let t = tells-rev
 tiny-passes {v} (TinyValue.batched s p major minor x y low high w r most) =
     let t = tells-batched v .from (r, most) in within (λ c. tinyRule c v ≡ true) 1 0x80 (t, t) w
 
+-- ---- ONIE
+
+date-formed : (v : List ℕ) → formed dateForm v ≡ true → OnieValue 0x25 v
+date-formed =
+    of-form dateForm (OnieValue 0x25)
+    (λ m₁ a₁ m₂ a₂ d₁ a₃ d₂ a₄ y₁ a₅ y₂ a₆ y₃ a₇ y₄ a₈ h₁ a₉ h₂ b₁ n₁ b₂ n₂ b₃ s₁ b₄ s₂ b₅.
+    let clock = also a₉ (also b₁ (also b₂ (also b₃ (also b₄ (also b₅ none))))) in
+    OnieValue.date m₁ m₂ d₁ d₂ y₁ y₂ y₃ y₄ h₁ h₂ n₁ n₂ s₁ s₂ refl (also a₁ (also a₂ (also a₃ (also a₄ (also a₅ (also a₆ (also a₇ (also a₈ clock)))))))))
+
+tells-country : (v : List ℕ) → Tells (eqb (length v) 2 && all capital v) ((length v ≡ 2) × Each (Between 0x41 0x5A) v)
+tells-country v = tells-both (tells-eq (length v) 2) (tells-all (tells-between 0x41 0x5A) v)
+
+country-kept : (v : List ℕ) → length v ≡ 2 → Each (Between 0x41 0x5A) v → OnieValue 0x2C v
+country-kept v two each = rw (is-placed 2 0 v two) (go (rw (is-placed 2 0 v two) at each))
+  where
+    go : {a b : ℕ} → Each (Between 0x41 0x5A) (a ∷ b ∷ []) → OnieValue 0x2C (a ∷ b ∷ [])
+    go {a} {b} (also p (also q none)) = OnieValue.country a b refl p q
+
+-- a value that passes is as document 02 has it
+onie-kept : {e code : ℕ} (v : List ℕ) → Named Onie e code → onieRule code v ≡ true → OnieValue code v
+unfolding onieRule oneOf
+onie-kept v (sinceThree le onie21) h = OnieValue.text (inl (omega arith, omega arith)) (printables v .to h)
+onie-kept v (sinceThree le onie22) h = OnieValue.text (inl (omega arith, omega arith)) (printables v .to h)
+onie-kept v (sinceThree le onie23) h = OnieValue.text (inl (omega arith, omega arith)) (printables v .to h)
+onie-kept v (sinceThree le onie24) h = OnieValue.address refl (tells-eq (length v) 6 .to h)
+onie-kept v (sinceThree le onie25) h = date-formed v h
+onie-kept v (sinceThree le onie2A) h = OnieValue.number refl (tells-eq (length v) 2 .to h)
+onie-kept v (sinceThree le onie2B) h = OnieValue.text (inr (inl refl)) (printables v .to h)
+onie-kept v (sinceThree le onie2C) h = let w = tells-country v .to h in country-kept v (w .0) (w .1)
+onie-kept v (sinceThree le onie2D) h = OnieValue.text (inr (inr refl)) (printables v .to h)
+onie-kept v (sinceThree le onieFD) h = OnieValue.vendor refl (tells-le 4 (length v) .to h)
+
+-- a value as document 02 has it passes
+onie-passes : {code : ℕ} {v : List ℕ} → OnieValue code v → onieRule code v ≡ true
+unfolding onieRule formed oneOf
+onie-passes {v} (OnieValue.text (inl w) ts) = let t = printables v .from ts in within (λ c. onieRule c v ≡ true) 2 0x21 (t, (t, t)) w
+onie-passes {v} (OnieValue.text (inr (inl is)) ts) = rw is (printables v .from ts)
+onie-passes {v} (OnieValue.text (inr (inr is)) ts) = rw is (printables v .from ts)
+onie-passes {v} (OnieValue.address is n) = rw is (tells-eq (length v) 6 .from n)
+onie-passes (OnieValue.date m₁ m₂ d₁ d₂ y₁ y₂ y₃ y₄ h₁ h₂ n₁ n₂ s₁ s₂ is
+    (also a₁ (also a₂ (also a₃ (also a₄ (also a₅ (also a₆ (also a₇ (also a₈ (also a₉ (also b₁ (also b₂ (also b₃ (also b₄ (also b₅ none))))))))))))))) =
+    rw (
+      is,
+      digit-passes m₁ a₁,
+      digit-passes m₂ a₂,
+      digit-passes d₁ a₃,
+      digit-passes d₂ a₄,
+      digit-passes y₁ a₅,
+      digit-passes y₂ a₆,
+      digit-passes y₃ a₇,
+      digit-passes y₄ a₈,
+      digit-passes h₁ a₉,
+      digit-passes h₂ b₁,
+      digit-passes n₁ b₂,
+      digit-passes n₂ b₃,
+      digit-passes s₁ b₄,
+      digit-passes s₂ b₅,
+    )
+onie-passes {v} (OnieValue.number is n) = rw is (tells-eq (length v) 2 .from n)
+onie-passes {v} (OnieValue.country a b is p q) = rw is (tells-country v .from (refl, also p (also q none)))
+onie-passes {v} (OnieValue.vendor is n) = rw is (tells-le 4 (length v) .from n)
+
 -- ---- any format
 
 -- the length of a value that a tag says, where it says one
@@ -291,6 +375,7 @@ abbrev Fits : Format → ℕ → ℕ → Type 0
 Fits Fboss code n = Unit {0}
 Fits Vpd code n = Unit {0}
 Fits Tiny code n = 16 ≤ code → n ≡ code / 16
+Fits Onie code n = Unit {0}
 
 -- an entry's value has it
 entry-fits : (g : Format) {bytes : List ℕ} {c : Content} → EntryOf (grammar g) bytes c → Fits g (c .code) (length (c .value))
@@ -301,6 +386,7 @@ entry-fits Tiny x = go (x .says)
     go : {code n : ℕ} {lens : List ℕ} → TinySays code lens n → Fits Tiny code n
     go (inl (low, is)) = λ high. absurd (omega arith)
     go (inr (high, is, sized)) = λ _. sized
+entry-fits Onie x = tt
 
 -- so has a value of the length that may be written
 length-fits : (g : Format) (code n : ℕ) → LengthRule g code n → Fits g code n
@@ -308,43 +394,52 @@ length-fits Fboss code n l = tt
 length-fits Vpd code n l = tt
 length-fits Tiny code n (inl (low, short)) = λ high. absurd (omega arith)
 length-fits Tiny code n (inr (high, sized)) = λ _. sized
+length-fits Onie code n l = tt
 
 tells-nothing : Tells true (Unit {0})
 tells-nothing = record { to = λ _. tt; from = λ _. refl }
 
 key-exactly : (g : Format) (e code : ℕ) (key : List ℕ) → Named g e code → Tells (shape g .readerKey code key) (KeyRule g code key)
-unfolding fboss vpd tiny
+unfolding fboss vpd tiny onie
 key-exactly Fboss e code key n = tells-nothing
 key-exactly Vpd e code key n = vpd-key key n
 key-exactly Tiny e code key n = tells-nothing
+key-exactly Onie e code key n = tells-nothing
 
 new-key-exactly : (g : Format) (e code : ℕ) (key : List ℕ) → Named g e code → Tells (shape g .writerKey code key) (KeyRule g code key × AlphabetRule g code key)
-unfolding fboss vpd tiny
+unfolding fboss vpd tiny onie
 new-key-exactly Fboss e code key n = tells-both tells-nothing tells-nothing
 new-key-exactly Vpd e code key n = rw (writer-key code key) (tells-both (vpd-key key n) (vpd-alphabet code key))
 new-key-exactly Tiny e code key n = tells-both tells-nothing tells-nothing
+new-key-exactly Onie e code key n = tells-both tells-nothing tells-nothing
 
 value-exactly : (g : Format) (e code : ℕ) (v : List ℕ) → Named g e code → Fits g code (length v) → Tells (shape g .valueRule code v) (ValueRule g code v)
-unfolding fboss vpd tiny
+unfolding fboss vpd tiny onie
 value-exactly Fboss e code v n fits = record { to = fboss-kept code v (fboss-between n); from = fboss-passes }
 value-exactly Vpd e code v n fits = vpd-value v n
 value-exactly Tiny e code v n fits = record { to = tiny-kept v n fits; from = tiny-passes }
+value-exactly Onie e code v n fits = record { to = onie-kept v n; from = onie-passes }
+
+-- a length that one byte says
+tells-byte : (n : ℕ) → Tells (ltb n 256) (n ≤ 255)
+tells-byte n = record { to = λ t. omega (arith, ltb-true n 256 t); from = λ l. lt-ltb n 256 (omega arith) }
 
 length-exactly : (g : Format) (code n : ℕ) → Tells (shape g .lengthRule code n) (LengthRule g code n)
-unfolding fboss vpd tiny
-length-exactly Fboss code n = record { to = λ t. omega (arith, ltb-true n 256 t); from = λ l. lt-ltb n 256 (omega arith) }
+unfolding fboss vpd tiny onie
+length-exactly Fboss code n = tells-byte n
 length-exactly Vpd code n = tells-nothing
 length-exactly Tiny code n = record { to = to; from = from }
   where
     to : tinyTakes code n ≡ true → LengthRule Tiny code n
     to =
         either (λ b. b ≡ true → LengthRule Tiny code n) (ltb code 16)
-        (λ low t. inl (ltb-true code 16 low, omega (arith, ltb-true n 256 t)))
+        (λ low t. inl (ltb-true code 16 low, tells-byte n .to t))
         (λ high t. inr (ltb-false code 16 high, eqb-true n (code / 16) t))
 
     from : LengthRule Tiny code n → tinyTakes code n ≡ true
-    from (inl (low, short)) = rw (lt-ltb code 16 low) (lt-ltb n 256 (omega arith))
+    from (inl (low, short)) = rw (lt-ltb code 16 low) (tells-byte n .from short)
     from (inr (high, sized)) = rw (le-ltb code 16 high) (eq-eqb n (code / 16) sized)
+length-exactly Onie code n = tells-byte n
 
 -- the rule on a new value
 edit-exactly : (g : Format) (e code : ℕ) (v : List ℕ) → Named g e code → Tells (editRule (shape g) code v) (LengthRule g code (length v) × ValueRule g code v)

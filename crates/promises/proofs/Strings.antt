@@ -8,7 +8,6 @@ use native.Mathlib.Omega.{arith}
 use lib.ListN.{length, length-append}
 use lib.Dec.{ltb, eqb}
 use borrow.Author.Tests.{ltb-true, ltb-false, le-ltb, eq-eqb, ne-eqb}
-use Rattle.layout.specs.declared.Format.{Format}
 use Rattle.layout.specs.declared.Format.the-variants.{Tiny}
 use Rattle.layout.specs.declared.Part.{Part}
 use Rattle.layout.specs.declared.Entry.{Entry}
@@ -24,12 +23,12 @@ use Rattle.laws.specs.Grammar.{tinyGrammar, Each, none, also}
 use Rattle.laws.proofs.Walking.{Frames}
 use Rattle.laws.proofs.Records.{entries-count}
 use Rattle.laws.proofs.Calls.{Reading, Found, check-found}
-use Rattle.promises.specs.Words.{FormatNumber, fboss, vpd, tiny as tinyNumber, Refuses, Item, here, there, tellsCheck, tellsString}
+use Rattle.promises.specs.Words.{tiny as tinyNumber, Refuses, Item, here, there, tellsCheck, tellsString}
 use Rattle.promises.specs.Strings.{Strings, tail, string, PoolStrings, TinyStrings, StringRule}
 use Rattle.laws.proofs.Lists.{each-append}
 use Rattle.laws.proofs.Strings.{goes}
 use Rattle.promises.proofs.Accepting.{lists, records-say}
-use Rattle.promises.proofs.Telling.{chosen-serves, counts-accepted, check-refused}
+use Rattle.promises.proofs.Telling.{one-format, chosen-serves, counts-accepted, check-refused}
 
 -- ---- bytes cut into strings
 
@@ -106,11 +105,6 @@ no-pool e (r ∷ rs) p (also other more) k = rw (ne-eqb (r .frame .code) 0x01 ot
 
 -- ---- Tiny alone
 
-three-tiny : {f : ℕ} {g : Format} → FormatNumber f g → f ≡ 3 → g ≡ Tiny
-three-tiny fboss q = absurd (omega arith)
-three-tiny vpd q = absurd (omega arith)
-three-tiny tinyNumber q = refl
-
 module _ (e : ℕ) (image : List ℕ) (start : ℕ) (rs : List Raw) (r : Reading 3 e image Tiny start rs) where
   strings-read : (k : ℕ) → stringAt 3 e image k ≡ poolString start rs k
   unfolding stringAt
@@ -142,7 +136,7 @@ module _ (e : ℕ) (image : List ℕ) (start : ℕ) (rs : List Raw) (r : Reading
 
 found-strings : (e : ℕ) (image : List ℕ) (n : ℕ) → Found 3 e image n → TinyStrings e image n
 found-strings e image n x =
-    let is : x .format ≡ Tiny = three-tiny (chosen-serves 3 e (x .format) (x .reading .known) .number) refl in
+    let is : x .format ≡ Tiny = one-format (chosen-serves 3 e (x .format) (x .reading .known) .number) tinyNumber in
     rw (x .count) (tiny-strings e image (x .start) (x .raws) (rw is at (x .reading)))
 
 string-refused : (e : ℕ) (image : List ℕ) (r : Refusal) → readImage 3 e image ≡ refused r → (k : ℕ) → tellsString 3 e image k ≡ tellsCheck 3 e image

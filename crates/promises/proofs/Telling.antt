@@ -9,7 +9,7 @@ use lib.ListN.{length}
 use lib.Dec.{leb}
 use borrow.Author.Tests.{eqb-true, leb-true, le-leb}
 use Rattle.layout.specs.declared.Format.{Format}
-use Rattle.layout.specs.declared.Format.the-variants.{Fboss, Vpd, Tiny}
+use Rattle.layout.specs.declared.Format.the-variants.{Fboss, Vpd, Tiny, Onie}
 use Rattle.layout.specs.declared.Field.{Field}
 use Rattle.layout.specs.declared.Refusal.{Refusal}
 use Rattle.layout.specs.declared.Chosen.the-variants.{Known}
@@ -18,14 +18,18 @@ use Rattle.layout.specs.declared.Checked.the-variants.{Accepted, Refused}
 use Rattle.layout.specs.declared.Made.{Made}
 use Rattle.layout.specs.declared.Made.the-variants.{Wrote, Unwritten}
 use Rattle.layout.specs.Bytes.{between, all}
-use Rattle.layout.specs.Editions.{knownEdition, chosen}
+use Rattle.layout.specs.Fboss.{fboss as fbossShape}
+use Rattle.layout.specs.Vpd.{vpd as vpdShape}
+use Rattle.layout.specs.Tiny.{tiny as tinyShape}
+use Rattle.layout.specs.Onie.{onie as onieShape}
+use Rattle.layout.specs.Editions.{shape, knownEdition, withEdition, chosen}
 use Rattle.layout.specs.Read.{Read, accepted, refused, readImage}
 use Rattle.layout.specs.Calls.{Told, toldChecked, checkedBy, checkImage}
 use Rattle.layout.specs.Write.{writeImage, toldMade}
 use Rattle.layout.specs.Edit.{editEntry}
 use Rattle.laws.proofs.Choices.{both}
-use Rattle.laws.proofs.Calls.{Stands, one, two, three, chosen-stands, stands-chosen}
-use Rattle.promises.specs.Words.{FormatNumber, fboss, vpd, tiny, KnownEdition, Serves, Counts, IsRefused, tellsCheck, tellsWrite, tellsEdit}
+use Rattle.laws.proofs.Calls.{Stands, one, two, three, four, chosen-stands}
+use Rattle.promises.specs.Words.{FormatNumber, fboss, vpd, tiny, onie, KnownEdition, firstEdition, Serves, Counts, IsRefused, tellsCheck, tellsWrite, tellsEdit}
 use Rattle.promises.specs.Numbers.{imageNumbers, writeNumbers}
 use Rattle.promises.proofs.FormatNumbers.{tabled}
 use Rattle.promises.proofs.Refusals.{farthest}
@@ -36,26 +40,51 @@ use Rattle.promises.proofs.WriteCalls.{MadeLow, editNumbers, edited-low
 -- ---- formats and editions
 
 pub edition-known : (e : ℕ) → KnownEdition e → knownEdition e ≡ true
-edition-known e k = rw (le-leb 1 e (k .0), le-leb e 2 (k .1))
+edition-known e k = rw (le-leb 1 e (k .0), le-leb e 3 (k .1))
 
 pub known-edition : (e : ℕ) → knownEdition e ≡ true → KnownEdition e
-known-edition e q = let b = both (leb 1 e) (leb e 2) q in (leb-true 1 e (b .0), leb-true e 2 (b .1))
+known-edition e q = let b = both (leb 1 e) (leb e 3) q in (leb-true 1 e (b .0), leb-true e 3 (b .1))
+
+pub first-edition : (g : Format) → shape g .edition ≡ firstEdition g
+unfolding fbossShape vpdShape tinyShape onieShape
+first-edition Fboss = refl
+first-edition Vpd = refl
+first-edition Tiny = refl
+first-edition Onie = refl
+
+-- the number of a format chooses it, where the edition has it
+pub number-chosen : {f : ℕ} {g : Format} (e : ℕ) → FormatNumber f g → chosen f e ≡ withEdition e g
+unfolding chosen
+number-chosen e fboss = refl
+number-chosen e vpd = refl
+number-chosen e tiny = refl
+number-chosen e onie = refl
+
+-- a number is that of one format
+pub one-format : {f : ℕ} {g h : Format} → FormatNumber f g → FormatNumber f h → g ≡ h
+one-format fboss fboss = refl
+one-format vpd vpd = refl
+one-format tiny tiny = refl
+one-format onie onie = refl
 
 pub serves-chosen : {f e : ℕ} {g : Format} → Serves f e g → chosen f e ≡ Known g
-serves-chosen {f} {e} {g} s = go (s .number) (edition-known e (s .edition))
-  where
-    go : {f : ℕ} {g : Format} → FormatNumber f g → knownEdition e ≡ true → chosen f e ≡ Known g
-    go fboss k = stands-chosen 1 e Fboss (one refl) k
-    go vpd k = stands-chosen 2 e Vpd (two refl refl) k
-    go tiny k = stands-chosen 3 e Tiny (three refl refl refl) k
+serves-chosen {f} {e} {g} s =
+    number-chosen e (s .number) ∙ rw (edition-known e (s .edition), first-edition g, le-leb (firstEdition g) e (s .since))
 
 stands-numbered : (f : ℕ) (g : Format) → Stands f g → FormatNumber f g
 stands-numbered f Fboss (one e) = rw (eqb-true f 1 e) fboss
 stands-numbered f Vpd (two d e) = rw (eqb-true f 2 e) vpd
 stands-numbered f Tiny (three c d e) = rw (eqb-true f 3 e) tiny
+stands-numbered f Onie (four b c d e) = rw (eqb-true f 4 e) onie
 
 pub chosen-serves : (f e : ℕ) (g : Format) → chosen f e ≡ Known g → Serves f e g
-chosen-serves f e g q = let s = chosen-stands f e g q in record { number = stands-numbered f g (s .0); edition = known-edition e (s .1) }
+chosen-serves f e g q =
+    let s = chosen-stands f e g q in
+    record {
+      number = stands-numbered f g (s .0);
+      edition = known-edition e (s .1 .known);
+      since = leb-true (firstEdition g) e (rw (first-edition g) at (s .1 .since));
+    }
 
 -- ---- check
 

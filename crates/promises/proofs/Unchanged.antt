@@ -10,10 +10,10 @@ use Rattle.layout.specs.declared.Entry.{Entry}
 use Rattle.layout.specs.declared.Field.{Field}
 use Rattle.layout.specs.declared.Chosen.{Chosen}
 use Rattle.layout.specs.declared.Chosen.the-variants.{Known, Unknown}
-use Rattle.layout.specs.Shape.{Shape}
+use Rattle.layout.specs.Shape.{Shape, Judged, fine, faulty}
 use Rattle.layout.specs.Editions.{shape, chosen}
 use Rattle.layout.specs.Walk.{Raw, Content}
-use Rattle.layout.specs.Read.{limit, Judged, fine, faulty, complete, Read, accepted, refused, readAs, readImage}
+use Rattle.layout.specs.Read.{limit, complete, Read, accepted, refused, readAs, readImage}
 use Rattle.layout.specs.Calls.{entriesOf, toldChecked, Listed, listedBy, listEntries}
 use Rattle.layout.specs.Write.{judgeFields, contentsOf, contentCodes, entriesBytes, imageOf, Outcome, put, writeJudged, writeAs, writeChosen, writeImage, toldMade}
 use Rattle.layout.specs.Edit.{editedBytes, Allowed, allowed, denied, mayEdit, editAllowed, editRead, editChosen, editEntry}

@@ -15,10 +15,10 @@ use Rattle.layout.specs.declared.Field.{Field}
 use Rattle.layout.specs.declared.Made.{Made}
 use Rattle.layout.specs.declared.Made.the-variants.{Wrote, Unwritten}
 use Rattle.layout.specs.Bytes.{oneOf}
-use Rattle.layout.specs.Shape.{Shape, Label}
+use Rattle.layout.specs.Shape.{Shape, Label, Judged, fine, faulty}
 use Rattle.layout.specs.Editions.{shape, chosen, names}
 use Rattle.layout.specs.Walk.{Raw, Content, labelOf, flat}
-use Rattle.layout.specs.Read.{limit, seenBefore, Judged, fine, faulty, complete, Read, accepted, refused, readAs}
+use Rattle.layout.specs.Read.{limit, seenBefore, complete, Read, accepted, refused, readAs}
 use Rattle.layout.specs.Write.{partsInside, fieldContent, writerRule, fieldFault, judgeFields, contentsOf, contentCodes, entriesBytes, imageOf, Outcome, put, writeJudged, writeAs, writeChosen, writeImage}
 use Rattle.layout.specs.Edit.{editedBytes, editRule, Allowed, allowed, denied, mayEdit, editAllowed, editRead, editChosen, editEntry}
 use Rattle.laws.specs.Grammar.{grammar}

@@ -7,19 +7,20 @@ use mathlib.Core.Bool.{Bool, true, false}
 use native.Mathlib.Omega.{arith}
 use lib.ListN.{length}
 use lib.Dec.{eqb}
-use borrow.Author.Tests.{leb-true, le-leb, le-ltb, eqb-true, eq-eqb}
+use borrow.Author.Tests.{leb-true, le-leb, le-ltb, eqb-true, eq-eqb, ne-eqb}
 use Rattle.layout.specs.declared.Format.{Format}
-use Rattle.layout.specs.declared.Format.the-variants.{Fboss, Vpd, Tiny}
+use Rattle.layout.specs.declared.Format.the-variants.{Fboss, Vpd, Tiny, Onie}
 use Rattle.layout.specs.declared.Field.{Field}
 use Rattle.layout.specs.declared.Chosen.the-variants.{Known}
 use Rattle.layout.specs.declared.Made.the-variants.{Wrote}
-use Rattle.layout.specs.Shape.{Shape}
+use Rattle.layout.specs.Shape.{Shape, fine}
 use Rattle.layout.specs.Fboss.{fboss}
 use Rattle.layout.specs.Vpd.{vpd, vpdTwice}
 use Rattle.layout.specs.Tiny.{tiny}
+use Rattle.layout.specs.Onie.{onie}
 use Rattle.layout.specs.Editions.{shape, chosen}
 use Rattle.layout.specs.Walk.{Content, labelOf}
-use Rattle.layout.specs.Read.{limit, same, fine, complete}
+use Rattle.layout.specs.Read.{limit, same, complete}
 use Rattle.layout.specs.Write.{inside, partsInside, judgeFields, contentsOf, contentCodes, entriesBytes, imageOf, put, writeAs, writeImage}
 use Rattle.laws.specs.Grammar.{none}
 use Rattle.laws.proofs.Choices.{false-true, either, both}
@@ -45,20 +46,25 @@ twice-key : (g : Format) (c d : Content) → shape g .twice (labelOf c) (labelOf
 unfolding vpd vpdTwice
 twice-key g c d h is one = same-true (c .key) (d .key) (rw (is, eq-eqb (c .code) 0x01 one) at h)
 
-key-twice : (g : Format) (c d : Content) → (g ≡ Vpd → c .code ≡ 0x01 → c .key ≡ d .key) → shape g .twice (labelOf c) (labelOf d) ≡ true
-unfolding fboss vpd tiny vpdTwice
-key-twice Fboss c d h = refl
-key-twice Vpd c d h =
-    either (λ t. t ≡ true) (eqb (c .code) 0x01) (λ one. rw (h refl (eqb-true (c .code) 0x01 one)) (same-refl (d .key))) (λ _. refl)
-key-twice Tiny c d h = refl
+twice-vendor : (g : Format) (c d : Content) → shape g .twice (labelOf c) (labelOf d) ≡ true → g ≡ Onie → c .code ≡ 0xFD → ⊥
+unfolding onie
+twice-vendor g c d h is vendor = false-true (rw (is, eq-eqb (c .code) 0xFD vendor) at h)
+
+again-twice : (g : Format) (c d : Content) → Again g c d → shape g .twice (labelOf c) (labelOf d) ≡ true
+unfolding fboss vpd tiny onie vpdTwice
+again-twice Fboss c d a = refl
+again-twice Vpd c d a =
+    either (λ t. t ≡ true) (eqb (c .code) 0x01) (λ one. rw (a .1 refl (eqb-true (c .code) 0x01 one)) (same-refl (d .key))) (λ _. refl)
+again-twice Tiny c d a = refl
+again-twice Onie c d a = rw (ne-eqb (c .code) 0xFD (a .2 refl))
 
 same-again : (g : Format) (c d : Content) → same (shape g) (labelOf c) (labelOf d) ≡ true → Again g c d
 same-again g c d h =
     let b = both (eqb (c .code) (d .code)) (shape g .twice (labelOf c) (labelOf d)) h in
-    (eqb-true (c .code) (d .code) (b .0), twice-key g c d (b .1))
+    (eqb-true (c .code) (d .code) (b .0), twice-key g c d (b .1), twice-vendor g c d (b .1))
 
 again-same : (g : Format) (c d : Content) → Again g c d → same (shape g) (labelOf c) (labelOf d) ≡ true
-again-same g c d a = rw (eq-eqb (c .code) (d .code) (a .0)) (key-twice g c d (a .1))
+again-same g c d a = rw (eq-eqb (c .code) (d .code) (a .0)) (again-twice g c d a)
 
 single-once : (g : Format) (cs : List Content) → Single (shape g) cs → Once g cs
 single-once g [] s = tt
@@ -75,10 +81,11 @@ once-single g (c ∷ cs) o = (each-map (λ d n. go d (same (shape g) (labelOf d)
 -- ---- after a Tiny pool
 
 last-pool : (g : Format) (code : ℕ) → shape g .last code ≡ true → (g ≡ Tiny) × (code ≡ 0x01)
-unfolding fboss vpd tiny
+unfolding fboss vpd tiny onie
 last-pool Fboss code h = false-true h
 last-pool Vpd code h = false-true h
 last-pool Tiny code h = (refl, eqb-true code 0x01 h)
+last-pool Onie code h = false-true h
 
 pool-last : (g : Format) (code : ℕ) → g ≡ Tiny → code ≡ 0x01 → shape g .last code ≡ true
 unfolding tiny
@@ -117,19 +124,21 @@ parts-inside : (g : Format) (values : List ℕ) (x : Field) → partsInside (sha
 parts-inside g values x h = (value-inside (shape g .keyed) values x h, key-inside g values x h)
 
 inside-parts : (g : Format) (values : List ℕ) (x : Field) → Inside g values x → partsInside (shape g .keyed) x values ≡ true
-unfolding fboss vpd tiny
+unfolding fboss vpd tiny onie
 inside-parts Fboss values x i = le-leb (x .value .place .0 + x .value .len) (length values) (i .0)
 inside-parts Vpd values x i =
     rw (le-leb (x .key .place .0 + x .key .len) (length values) (i .1 refl), le-leb (x .value .place .0 + x .value .len) (length values) (i .0))
 inside-parts Tiny values x i = le-leb (x .value .place .0 + x .value .len) (length values) (i .0)
+inside-parts Onie values x i = le-leb (x .value .place .0 + x .value .len) (length values) (i .0)
 
 -- ---- the codes that an image must have
 
 required-codes : (g : Format) → shape g .required ≡ required g
-unfolding fboss vpd tiny
+unfolding fboss vpd tiny onie
 required-codes Fboss = refl
 required-codes Vpd = refl
 required-codes Tiny = refl
+required-codes Onie = refl
 
 -- ---- a write
 

@@ -1,4 +1,5 @@
--- What no call takes (01, "Order"): a format that is not 1 to 3 is 16, then an edition that is not 1 or 2 is 1, then an image or an output above 65,536 bytes is 2; each at 0.
+-- What no call takes (01, "Order"; 02, "ONIE images and edition 3"): a format that is not 1 to 4 is 16, then an edition that is not 1 to 3 is 1, then a format that the edition does not have is 16,
+-- then an image or an output above 65,536 bytes is 2; each at 0.
 -- Assumes nothing.
 use Prim.Native.Nat.{ℕ, _<_}
 use mathlib.Core.List.{List}
@@ -7,7 +8,7 @@ use lib.ListN.{length}
 use Rattle.layout.specs.declared.Format.{Format}
 use Rattle.layout.specs.declared.Entry.{Entry}
 use Rattle.layout.specs.declared.Field.{Field}
-use Rattle.promises.specs.Words.{FormatNumber, KnownEdition, Serves, Refuses, tellsCheck, tellsList, tellsEntry, tellsValue, tellsWrite, tellsEdit}
+use Rattle.promises.specs.Words.{FormatNumber, KnownEdition, firstEdition, Serves, Refuses, tellsCheck, tellsList, tellsEntry, tellsValue, tellsWrite, tellsEdit}
 
 -- whatever else it is lent, every call of this format and edition is refused by this number, at 0; a string goes by Strings
 pub record AllRefuse (f e n : ℕ) : Type 0 where
@@ -18,7 +19,7 @@ pub record AllRefuse (f e n : ℕ) : Type 0 where
   pub written : (fields : List Field) (values out : List ℕ) → Refuses (tellsWrite f e fields values out) n 0
   pub edited : (image : List ℕ) (i : ℕ) (v out : List ℕ) → Refuses (tellsEdit f e image i v out) n 0
 
--- of a known format and edition: what is too long
+-- of an edition that has the format: what is too long
 pub record TooLong (f e : ℕ) : Type 0 where
   pub checked : (image : List ℕ) → 65536 < length image → Refuses (tellsCheck f e image) 2 0
   pub written : (fields : List Field) (values out : List ℕ) → 65536 < length out → Refuses (tellsWrite f e fields values out) 2 0
@@ -27,4 +28,5 @@ pub record TooLong (f e : ℕ) : Type 0 where
 pub record Asked : Type 0 where
   pub format : (f e : ℕ) → ((g : Format) → FormatNumber f g → ⊥) → AllRefuse f e 16
   pub edition : (f e : ℕ) (g : Format) → FormatNumber f g → (KnownEdition e → ⊥) → AllRefuse f e 1
+  pub early : (f e : ℕ) (g : Format) → FormatNumber f g → KnownEdition e → e < firstEdition g → AllRefuse f e 16
   pub length : (f e : ℕ) (g : Format) → Serves f e g → TooLong f e

@@ -7,7 +7,7 @@ use mathlib.Core.List.{List, _++_}
 use mathlib.Core.Bool.{true, false}
 use lib.ListN.{length, replicate}
 use Rattle.layout.specs.declared.Format.{Format}
-use Rattle.layout.specs.declared.Format.the-variants.{Fboss, Vpd, Tiny}
+use Rattle.layout.specs.declared.Format.the-variants.{Fboss, Vpd, Tiny, Onie}
 use Rattle.layout.specs.declared.Entry.{Entry}
 use Rattle.layout.specs.Editions.{shape}
 use Rattle.layout.specs.Walk.{Content}
@@ -65,6 +65,7 @@ abbrev pub lengthPlace : Format → Entry → ℕ
 lengthPlace Fboss x = x .place .0 + 1
 lengthPlace Vpd x = x .key .place .0 + x .key .len
 lengthPlace Tiny x = x .place .0 + 1
+lengthPlace Onie x = x .place .0 + 1
 
 -- how long the image becomes whose entries end at `end`, with a value of n bytes for this one
 abbrev pub editedSize : Format → ℕ → Entry → ℕ → ℕ

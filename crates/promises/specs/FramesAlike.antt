@@ -1,4 +1,4 @@
--- A bad frame is reported alike by every known edition: 2, 3, 4, 5, 6, 9 and 10, each with the same place; and no rule is asked before all frames and the check are right.
+-- A bad frame is reported alike by every edition that has the format: 2, 3, 4, 5, 6, 9 and 10, each with the same place; and no rule is asked before all frames and the check are right.
 -- Assumes nothing.
 use Prim.Native.Nat.{ℕ, _≤_}
 use mathlib.Core.Path.{_≡_}
@@ -10,7 +10,7 @@ use Rattle.layout.specs.Bytes.{oneOf}
 use Rattle.layout.specs.Editions.{shape}
 use Rattle.layout.specs.Walk.{Content}
 use Rattle.laws.specs.Grammar.{grammar, Entries}
-use Rattle.promises.specs.Words.{KnownEdition, Serves, tellsCheck}
+use Rattle.promises.specs.Words.{Serves, tellsCheck}
 
 -- an image whose frames and check are right: a header, entries without gaps, what closes them, the right check, and any rest; whatever its entries say
 pub record Framed (format : Format) (image : List ℕ) : Type 0 where
@@ -20,6 +20,7 @@ pub record Framed (format : Format) (image : List ℕ) : Type 0 where
   pub rest : List ℕ
   pub is : image ≡ shape format .header (length entries) ++ (entries ++ (closing ++ (shape format .check (shape format .header (length entries) ++ entries) ++ rest)))
   pub closes : grammar format .Closing closing
+  pub takes : grammar format .Takes (length entries)
   pub made : Entries (grammar format) (shape format) false entries contents
   pub short : length image ≤ 65536
 
@@ -32,8 +33,8 @@ ruleNumbers = 0 ∷ 7 ∷ 8 ∷ 11 ∷ []
 
 -- every other call on a refused image tells what the check tells (Lookups, Strings)
 pub record FramesAlike : Type 0 where
-  pub alike : (f d e : ℕ) (image : List ℕ) → KnownEdition d → KnownEdition e → oneOf frameNumbers (tellsCheck f d image .number) ≡ true →
+  pub alike : (f d e : ℕ) (format : Format) (image : List ℕ) → Serves f d format → Serves f e format → oneOf frameNumbers (tellsCheck f d image .number) ≡ true →
       tellsCheck f e image ≡ tellsCheck f d image
-  -- a known edition gives a number of the first list exactly where the image is not framed, and one of the second exactly where it is
+  -- such an edition gives a number of the first list exactly where the image is not framed, and one of the second exactly where it is
   pub framed : (f e : ℕ) (format : Format) (image : List ℕ) → Serves f e format → Framed format image → oneOf ruleNumbers (tellsCheck f e image .number) ≡ true
   pub unframed : (f e : ℕ) (format : Format) (image : List ℕ) → Serves f e format → (Framed format image → ⊥) → oneOf frameNumbers (tellsCheck f e image .number) ≡ true

@@ -6,7 +6,7 @@ use mathlib.Core.List.{List, [], _∷_}
 use mathlib.Core.Logic.{_⊎_}
 use lib.ListN.{length}
 use Rattle.layout.specs.declared.Format.{Format}
-use Rattle.layout.specs.declared.Format.the-variants.{Fboss, Vpd, Tiny}
+use Rattle.layout.specs.declared.Format.the-variants.{Fboss, Vpd, Tiny, Onie}
 use Rattle.layout.specs.declared.Entry.{Entry}
 use Rattle.layout.specs.declared.Identity.{Identity}
 use Rattle.layout.specs.declared.Reading.{Reading}
@@ -17,7 +17,7 @@ use Rattle.laws.specs.Grammar.{Each}
 use Rattle.promises.specs.Words.{Serves, Counts, Lists, tellsCheck}
 use Rattle.promises.specs.Names.{Named}
 
--- ---- readings, by 01's lines
+-- ---- readings, by 01's lines and document 02's third item
 
 -- six bytes of an address, high byte first
 abbrev pub base : ℕ → ℕ → ℕ → ℕ → ℕ → ℕ → ℕ
@@ -56,11 +56,19 @@ pub data TinyMeans (code : ℕ) : List ℕ → Reading → Type 0 where
   batched : (s p major minor x y low high : ℕ) → (code ≡ 0x80) ⊎ (code ≡ 0x81) →
       TinyMeans code (s ∷ p ∷ major ∷ minor ∷ x ∷ y ∷ low ∷ high ∷ []) (Batched (identified s p major minor x y) (low + high * 256))
 
+-- ONIE: 24h an address block of count 1; 2Ah a number of two bytes, high byte first; FDh plain bytes; all others that are named are text
+pub data OnieMeans (code : ℕ) : List ℕ → Reading → Type 0 where
+  text : {v : List ℕ} → ((0x21 ≤ code) × (code ≤ 0x23)) ⊎ ((code ≡ 0x25) ⊎ ((0x2B ≤ code) × (code ≤ 0x2D))) → OnieMeans code v Text
+  addresses : (a b c d e f : ℕ) → code ≡ 0x24 → OnieMeans code (a ∷ b ∷ c ∷ d ∷ e ∷ f ∷ []) (Addresses (base a b c d e f) 1)
+  number : (a b : ℕ) → code ≡ 0x2A → OnieMeans code (a ∷ b ∷ []) (Number (a * 256 + b))
+  plain : {v : List ℕ} → code ≡ 0xFD → OnieMeans code v Plain
+
 -- 01's term "reading": what a value of a named code means
 abbrev pub Means : Format → ℕ → List ℕ → Reading → Type 0
 Means Fboss code v r = FbossMeans code v r
 Means Vpd code v r = VpdMeans code v r
 Means Tiny code v r = TinyMeans code v r
+Means Onie code v r = OnieMeans code v r
 
 -- ---- the records of a list
 

@@ -15,7 +15,7 @@ pub record Kept (f n : ℕ) (image : List ℕ) (i : ℕ) (v output : List ℕ) (
   pub whole : Reads f n output (replaced former i v)
   pub front : Reads f n (take m output) (replaced former i v)
 
--- o and n are known editions, o no newer than n: that they are known follows from what they did not refuse
+-- o and n are editions that have the format, o no newer than n: that they are follows from what they did not refuse
 abbrev pub OlderEdits : Type 0
 OlderEdits =
     (f o n : ℕ) (image : List ℕ) (count i : ℕ) (v out : List ℕ) (m : ℕ) → o ≤ n → Counts (tellsCheck f n image) count →

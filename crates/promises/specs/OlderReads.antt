@@ -8,7 +8,7 @@ use Rattle.layout.specs.declared.Format.{Format}
 use Rattle.layout.specs.declared.Entry.{Entry}
 use Rattle.layout.specs.declared.Reading.the-variants.{Plain}
 use Rattle.laws.specs.Contents.{said}
-use Rattle.promises.specs.Words.{KnownEdition, Serves, Counts, Lists, tellsCheck}
+use Rattle.promises.specs.Words.{Serves, Counts, Lists, tellsCheck}
 use Rattle.promises.specs.Names.{Named}
 
 -- an older edition's record of an entry, beside a newer one's
@@ -36,6 +36,6 @@ pub record Older (f o n : ℕ) (image : List ℕ) (count : ℕ) : Type 0 where
   pub listed : Lists f o image older × Lists f n image newer
   pub alike : AllAlike format o image older newer
 
--- o and n are known editions, o no newer than n; that n is known follows from its acceptance
+-- o and n are editions that have the format, o no newer than n; that n is one follows from its acceptance
 abbrev pub OlderReads : Type 0
-OlderReads = (f o n : ℕ) (image : List ℕ) (count : ℕ) → KnownEdition o → o ≤ n → Counts (tellsCheck f n image) count → Older f o n image count
+OlderReads = (f o n : ℕ) (format : Format) (image : List ℕ) (count : ℕ) → Serves f o format → o ≤ n → Counts (tellsCheck f n image) count → Older f o n image count

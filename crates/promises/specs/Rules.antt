@@ -1,4 +1,4 @@
--- The rules of named entries (7), as document 01's lines have them ("FBOSS v5", "VPD 2.0", "Tiny version 2", "Writing, editing, walking") and document 02's first item, apart from the definitions' tests.
+-- The rules of named entries (7), as document 01's lines have them ("FBOSS v5", "VPD 2.0", "Tiny version 2", "Writing, editing, walking") and document 02's first and third items, apart from the definitions' tests.
 -- Assumes nothing.
 use Prim.Native.Nat.{ℕ, _+_, _*_, _/_, _≤_, _<_}
 use mathlib.Core.Path.{_≡_}
@@ -7,7 +7,7 @@ use mathlib.Core.Logic.{_⊎_}
 use mathlib.Core.Bool.{true}
 use lib.ListN.{length}
 use Rattle.layout.specs.declared.Format.{Format}
-use Rattle.layout.specs.declared.Format.the-variants.{Fboss, Vpd, Tiny}
+use Rattle.layout.specs.declared.Format.the-variants.{Fboss, Vpd, Tiny, Onie}
 use Rattle.layout.specs.Editions.{shape}
 use Rattle.layout.specs.Walk.{Content}
 use Rattle.layout.specs.Read.{readerRule}
@@ -75,29 +75,53 @@ pub data TinyValue (code : ℕ) : List ℕ → Type 0 where
   batched : (s p major minor x y low high : ℕ) → Between 0x80 0x81 code → Revision major minor → low + high * 256 ≤ 9999 →
       TinyValue code (s ∷ p ∷ major ∷ minor ∷ x ∷ y ∷ low ∷ high ∷ [])
 
+-- ---- ONIE
+
+-- any digit
+abbrev pub Digit : ℕ → Type 0
+Digit d = d ≤ 9
+
+pub data OnieValue (code : ℕ) : List ℕ → Type 0 where
+  text : {v : List ℕ} → Between 0x21 0x23 code ⊎ ((code ≡ 0x2B) ⊎ (code ≡ 0x2D)) → Each Printable v → OnieValue code v
+  address : {v : List ℕ} → code ≡ 0x24 → length v ≡ 6 → OnieValue code v
+  -- MM/DD/YYYY HH:NN:SS, any digits
+  date : (m₁ m₂ d₁ d₂ y₁ y₂ y₃ y₄ h₁ h₂ n₁ n₂ s₁ s₂ : ℕ) → code ≡ 0x25 →
+      Each Digit (m₁ ∷ m₂ ∷ d₁ ∷ d₂ ∷ y₁ ∷ y₂ ∷ y₃ ∷ y₄ ∷ h₁ ∷ h₂ ∷ n₁ ∷ n₂ ∷ s₁ ∷ s₂ ∷ []) →
+      OnieValue code
+      ((0x30 + m₁) ∷ (0x30 + m₂) ∷ 0x2F ∷ (0x30 + d₁) ∷ (0x30 + d₂) ∷ 0x2F ∷ (0x30 + y₁) ∷ (0x30 + y₂) ∷ (0x30 + y₃) ∷ (0x30 + y₄)
+      ∷ 0x20 ∷ (0x30 + h₁) ∷ (0x30 + h₂) ∷ 0x3A ∷ (0x30 + n₁) ∷ (0x30 + n₂) ∷ 0x3A ∷ (0x30 + s₁) ∷ (0x30 + s₂) ∷ [])
+  number : {v : List ℕ} → code ≡ 0x2A → length v ≡ 2 → OnieValue code v
+  -- two letters A-Z
+  country : (a b : ℕ) → code ≡ 0x2C → Between 0x41 0x5A a → Between 0x41 0x5A b → OnieValue code (a ∷ b ∷ [])
+  vendor : {v : List ℕ} → code ≡ 0xFD → 4 ≤ length v → OnieValue code v
+
 -- ---- any format
 
 abbrev pub KeyRule : Format → ℕ → List ℕ → Type 0
 KeyRule Fboss code key = Unit {0}
 KeyRule Vpd code key = VpdKey code key
 KeyRule Tiny code key = Unit {0}
+KeyRule Onie code key = Unit {0}
 
 -- what is asked besides of a key that is written: of a VPD 01h, that each byte is of the narrow alphabet
 abbrev pub AlphabetRule : Format → ℕ → List ℕ → Type 0
 AlphabetRule Fboss code key = Unit {0}
 AlphabetRule Vpd code key = code ≡ 0x01 → Each KeyByte key
 AlphabetRule Tiny code key = Unit {0}
+AlphabetRule Onie code key = Unit {0}
 
 abbrev pub ValueRule : Format → ℕ → List ℕ → Type 0
 ValueRule Fboss code v = FbossValue code v
 ValueRule Vpd code v = VpdValue code v
 ValueRule Tiny code v = TinyValue code v
+ValueRule Onie code v = OnieValue code v
 
--- the length of a value that is written: FBOSS and a Tiny pool to 255, another Tiny value as its tag says
+-- the length of a value that is written: FBOSS, ONIE and a Tiny pool to 255, another Tiny value as its tag says
 abbrev pub LengthRule : Format → ℕ → ℕ → Type 0
 LengthRule Fboss code n = n ≤ 255
 LengthRule Vpd code n = Unit {0}
 LengthRule Tiny code n = ((code < 16) × (n ≤ 255)) ⊎ ((16 ≤ code) × (n ≡ code / 16))
+LengthRule Onie code n = n ≤ 255
 
 -- the reader's rule is asked of an entry, whose value has the length that its frame says; the writer's and the edit's of any value
 pub record Rules : Type 0 where

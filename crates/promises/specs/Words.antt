@@ -5,7 +5,7 @@ use mathlib.Core.Path.{_≡_}
 use mathlib.Core.List.{List, [], _∷_, _++_, map}
 use lib.ListN.{length, drop}
 use Rattle.layout.specs.declared.Format.{Format}
-use Rattle.layout.specs.declared.Format.the-variants.{Fboss, Vpd, Tiny}
+use Rattle.layout.specs.declared.Format.the-variants.{Fboss, Vpd, Tiny, Onie}
 use Rattle.layout.specs.declared.Entry.{Entry}
 use Rattle.layout.specs.declared.Field.{Field}
 use Rattle.layout.specs.Bytes.{partAt, refusal}
@@ -17,20 +17,29 @@ use Rattle.laws.specs.Contents.{said}
 
 -- ---- formats and editions
 
--- document 01's number of a format
+-- the number of a format: document 01's, and 4 of document 02's third item
 pub data FormatNumber : ℕ → Format → Type 0 where
   fboss : FormatNumber 1 Fboss
   vpd : FormatNumber 2 Vpd
   tiny : FormatNumber 3 Tiny
+  onie : FormatNumber 4 Onie
 
--- 01's term "edition": the known ones are 1 and 2
+-- 01's term "edition": the known ones are 1, 2 and 3
 abbrev pub KnownEdition : ℕ → Type 0
-KnownEdition e = (1 ≤ e) × (e ≤ 2)
+KnownEdition e = (1 ≤ e) × (e ≤ 3)
 
--- a call's format number stands for this format, and its edition is known
+-- the first edition that has a format
+abbrev pub firstEdition : Format → ℕ
+firstEdition Fboss = 1
+firstEdition Vpd = 1
+firstEdition Tiny = 1
+firstEdition Onie = 3
+
+-- a call's format number stands for this format, and its edition is known and has it
 pub record Serves (f e : ℕ) (format : Format) : Type 0 where
   pub number : FormatNumber f format
   pub edition : KnownEdition e
+  pub since : firstEdition format ≤ e
 
 -- ---- what the calls tell
 

@@ -7,7 +7,7 @@ use mathlib.Core.List.{List, [], _∷_, _++_, map}
 use mathlib.Core.Bool.{true}
 use lib.ListN.{length, replicate}
 use Rattle.layout.specs.declared.Format.{Format}
-use Rattle.layout.specs.declared.Format.the-variants.{Fboss, Vpd, Tiny}
+use Rattle.layout.specs.declared.Format.the-variants.{Fboss, Vpd, Tiny, Onie}
 use Rattle.layout.specs.declared.Part.{Part}
 use Rattle.layout.specs.declared.Field.{Field}
 use Rattle.layout.specs.Editions.{shape}
@@ -45,9 +45,9 @@ Within values x = x .place .0 + x .len ≤ length values
 abbrev pub Inside : Format → List ℕ → Field → Type 0
 Inside format values x = Within values (x .value) × (format ≡ Vpd → Within values (x .key))
 
--- the field comes a second time: the same code, and of VPD 01h the same key
+-- the field comes a second time: the same code, and of VPD 01h the same key; an ONIE FDh never does
 abbrev pub Again : Format → Content → Content → Type 0
-Again format a b = (a .code ≡ b .code) × (format ≡ Vpd → a .code ≡ 0x01 → a .key ≡ b .key)
+Again format a b = (a .code ≡ b .code) × (format ≡ Vpd → a .code ≡ 0x01 → a .key ≡ b .key) × (format ≡ Onie → a .code ≡ 0xFD → ⊥)
 
 -- none comes again
 abbrev pub Once : Format → List Content → Type 0
@@ -64,6 +64,7 @@ abbrev pub required : Format → List ℕ
 required Fboss = 1 ∷ 8 ∷ 9 ∷ 10 ∷ 11 ∷ []
 required Vpd = []
 required Tiny = []
+required Onie = []
 
 pub record Writable (f e : ℕ) (fields : List Field) (values out : List ℕ) : Type 0 where
   pub format : Format

@@ -89,6 +89,7 @@ fn key_part(format: Format, p: usize, f: Frame) -> Part
         Format::Fboss => part_at(p + f.val, 0),
         Format::Vpd => part_at(p + f.key, f.klen),
         Format::Tiny => part_at(p + f.val, 0),
+        Format::Onie => part_at(p + f.val, 0),
     }
 }
 

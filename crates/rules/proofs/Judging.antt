@@ -11,10 +11,10 @@ use lib.Seq.{take-all, take-suc, drop-cons}
 use Rattle.layout.specs.declared.Field.{Field}
 use Rattle.layout.specs.declared.Format.{Format}
 use Rattle.layout.specs.Bytes.{if}
-use Rattle.layout.specs.Shape.{Shape, Label}
+use Rattle.layout.specs.Shape.{Shape, Label, fine}
 use Rattle.layout.specs.Editions.{shape, names}
 use Rattle.layout.specs.Walk.{Content, labelOf}
-use Rattle.layout.specs.Read.{seenBefore, fine, orElse, complete}
+use Rattle.layout.specs.Read.{seenBefore, orElse, complete}
 use Rattle.layout.specs.Write.{fieldAt, fieldKey, partsInside, fieldContent, writerRule, fieldFault, judgeFields, contentsOf, contentCodes, entryBytes, entriesBytes}
 use Rattle.laws.specs.Marked.{allMarked}
 use Rattle.laws.proofs.Marks.{Marks, none-marked, one-marked, marked-complete}

@@ -6,10 +6,10 @@ use mathlib.Core.Bool.{Bool, true, false}
 use lib.ListN.{length}
 use Rattle.layout.specs.declared.Field.{Field}
 use Rattle.layout.specs.declared.Format.{Format}
-use Rattle.layout.specs.Shape.{Shape, Label}
+use Rattle.layout.specs.Shape.{Shape, Label, Judged, fine, faulty}
 use Rattle.layout.specs.Editions.{shape}
 use Rattle.layout.specs.Walk.{labelOf}
-use Rattle.layout.specs.Read.{Judged, fine, faulty, complete}
+use Rattle.layout.specs.Read.{complete}
 use Rattle.layout.specs.Write.{fieldContent, judgeFields, contentsOf, contentCodes, entriesBytes}
 use Rattle.output.specs.Lengths.{capped}
 use Rattle.rules.specs.declared.Fields.{Fields}

@@ -37,7 +37,7 @@ fn seen_key(fields: &[u8], values: &[u8], n: usize, key: &[u8]) -> bool
     false
 }
 
-// Whether a field of this code and key comes a second time after the first n fields; a VPD 01h does not where its key is not known.
+// Whether a field of this code and key comes a second time after the first n fields; a VPD 01h does not where its key is not known, and an ONIE FDh never does.
 fn is_seen(
     format: Format,
     fields: &[u8],
@@ -66,6 +66,12 @@ fn is_seen(
             seen[at] != 0
         }
         Format::Tiny => seen[at] != 0,
+        Format::Onie => {
+            if code == 0xFD {
+                return false;
+            }
+            seen[at] != 0
+        }
     }
 }
 

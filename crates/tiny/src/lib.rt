@@ -1,7 +1,6 @@
 // Tiny EEPROM version 2: its header, what opens an entry, lengths, rules and readings, and its check.
 ghost use mathlib.Core.Path.{_≡_};
 ghost use lib.ListN.{getD};
-ghost use Rattle.layout.specs.Bytes.{refusal};
 ghost use Rattle.layout.specs.Tiny.{tiny, tinyOpened, tinyHead, tinyLength, tinyTakes, revisionRule, batch, tinyRule, passed, identity, tinyReading};
 ghost use Rattle.layout.specs.Read.{sealed};
 use layout::Head;
@@ -9,9 +8,7 @@ use layout::Headed;
 use layout::Identity;
 use layout::Length;
 use layout::Opened;
-use layout::Place;
 use layout::Reading;
-use layout::Refusal;
 use layout::StringNumber;
 
 // The byte at i, or 0 where there is none.
@@ -21,34 +18,24 @@ fn byte_at(v: &[u8], i: usize) -> u8
     if i < v.len() { v[i] } else { 0 }
 }
 
-// The answer for a header that is refused.
-fn closed(number: u32, place: usize) -> Opened
-    ensures { λ r. ⌜ r ≡ Opened.Closed (refusal number place) ⌝ }
-{
-    Opened::Closed(Refusal {
-        number: number,
-        place: Place(place),
-    })
-}
-
 // Where the entries of an image are, by its header.
 pub fn tiny_opened(image: &[u8]) -> Opened
     ensures { λ r. ⌜ r ≡ tinyOpened (now (image .entry)) ⌝ }
 {
     if image.len() < 3 {
-        return closed(3, 0);
+        return parts::closed(3, 0);
     }
     if image[0] != 0x56 {
-        return closed(3, 0);
+        return parts::closed(3, 0);
     }
     if image[1] != 0x02 {
-        return closed(4, 0);
+        return parts::closed(4, 0);
     }
     let total = image[2] as usize;
     if (4 <= total) & (total <= image.len()) {
         return Opened::Room(3, total - 1);
     }
-    closed(5, 2)
+    parts::closed(5, 2)
 }
 
 // What opens an entry. `shut`: the entry before was the pool.

@@ -12,9 +12,10 @@ use Rattle.layout.specs.declared.Chosen.the-variants.{Known, Unknown}
 use Rattle.layout.specs.declared.Field.{Field}
 use Rattle.layout.specs.declared.Format.{Format}
 use Rattle.layout.specs.Bytes.{refusal}
+use Rattle.layout.specs.Shape.{Judged, fine, faulty}
 use Rattle.layout.specs.Editions.{shape, chosen}
 use Rattle.layout.specs.Walk.{Content}
-use Rattle.layout.specs.Read.{limit, Judged, fine, faulty, complete}
+use Rattle.layout.specs.Read.{limit, complete}
 use Rattle.layout.specs.Write.{judgeFields, contentsOf, contentCodes, imageOf, refuse, put, writeJudged, writeAs, writeImage}
 use Rattle.laws.specs.Grammar.{Each, none, also}
 use Rattle.laws.proofs.Formats.{laws}

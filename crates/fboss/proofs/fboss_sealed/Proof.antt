@@ -8,18 +8,20 @@ use borrow.Author.Needs.{needs}
 use Rattle.layout.specs.Bytes.{part}
 use Rattle.layout.specs.Fboss.{fboss}
 use Rattle.layout.specs.Read.{sealed}
-use Rattle.fboss.proofs.Seal.{unsealed}
+use Rattle.parts.proofs.Seal.{unsealed}
 use Rattle.fboss.proofs.fboss_sealed.Statement.{statement}
 use Rattle.fboss.proofs.fboss_sealed.Tie as tie
 
 returns : tie.Need-returns
-returns c = unsealed _ _ (omega arith)
+unfolding fboss
+returns c = unsealed fboss _ _ (omega arith) (omega arith)
 
 sub-if2 : tie.Need-sub-if2
 sub-if2 c = search needs
 
 returns-2 : tie.Need-returns-2
-returns-2 c = unsealed _ _ (omega arith)
+unfolding fboss
+returns-2 c = unsealed fboss _ _ (omega arith) (omega arith)
 
 add-at : tie.Need-add-at
 add-at c = search needs

@@ -3,6 +3,7 @@
 use Rattle.layout.specs.Fboss.{fboss}
 use Rattle.layout.specs.Vpd.{vpd}
 use Rattle.layout.specs.Tiny.{tiny}
+use Rattle.layout.specs.Onie.{onie}
 use borrow.Author.Needs.{needs}
 use Rattle.fields.proofs.parts_inside.Statement.{statement}
 use Rattle.fields.proofs.parts_inside.Tie as tie
@@ -28,6 +29,12 @@ enum-told-3 c = search needs
 is-inside-requires-4 : tie.Need-is-inside-requires-4
 is-inside-requires-4 c κs = search needs
 
+enum-told-4 : tie.Need-enum-told-4
+enum-told-4 c = search needs
+
+is-inside-requires-5 : tie.Need-is-inside-requires-5
+is-inside-requires-5 c κs = search needs
+
 returns : tie.Need-returns
 unfolding vpd
 returns c = rw (c .before .before .enum-told .given .1, c .before .is-inside .ensures, c .is-inside2 .ensures)
@@ -40,6 +47,10 @@ returns-3 : tie.Need-returns-3
 unfolding tiny
 returns-3 c = rw (c .before .enum-told3 .given .1) (c .is-inside4 .ensures)
 
+returns-4 : tie.Need-returns-4
+unfolding onie
+returns-4 c = rw (c .before .enum-told4 .given .1) (c .is-inside5 .ensures)
+
 pub parts-inside-spec : {M : Type 1} → statement M
 parts-inside-spec =
     tie.close
@@ -51,6 +62,9 @@ parts-inside-spec =
     is-inside-requires-3
     enum-told-3
     is-inside-requires-4
+    enum-told-4
+    is-inside-requires-5
     returns
     returns-2
-    returns-3)
+    returns-3
+    returns-4)

@@ -27,9 +27,18 @@ returns-3 : tie.Need-returns-3
 unfolding chosen
 returns-3 c = rw (ne-eqb _ 1 (c .before .before .before .if1 .left), ne-eqb _ 2 (c .before .before .if2 .left), eq-eqb _ 3 (c .before .if3 .taken)) (c .with-edition3 .ensures)
 
+with-edition-requires-4 : tie.Need-with-edition-requires-4
+with-edition-requires-4 c κs = search needs
+
 returns-4 : tie.Need-returns-4
 unfolding chosen
-returns-4 c = rw (ne-eqb _ 1 (c .before .before .if1 .left), ne-eqb _ 2 (c .before .if2 .left), ne-eqb _ 3 (c .if3 .left))
+returns-4 c =
+    rw (ne-eqb _ 1 (c .before .before .before .before .if1 .left), ne-eqb _ 2 (c .before .before .before .if2 .left), ne-eqb _ 3 (c .before .before .if3 .left), eq-eqb _ 4 (c .before .if4 .taken))
+    (c .with-edition4 .ensures)
+
+returns-5 : tie.Need-returns-5
+unfolding chosen
+returns-5 c = rw (ne-eqb _ 1 (c .before .before .before .if1 .left), ne-eqb _ 2 (c .before .before .if2 .left), ne-eqb _ 3 (c .before .if3 .left), ne-eqb _ 4 (c .if4 .left))
 
 pub choose-spec : {M : Type 1} → statement M
 choose-spec =
@@ -41,4 +50,6 @@ choose-spec =
     returns-2
     with-edition-requires-3
     returns-3
-    returns-4)
+    with-edition-requires-4
+    returns-4
+    returns-5)

@@ -4,6 +4,7 @@ use borrow.Author.Needs.{needs}
 use Rattle.layout.specs.Fboss.{fboss}
 use Rattle.layout.specs.Vpd.{vpd}
 use Rattle.layout.specs.Tiny.{tiny}
+use Rattle.layout.specs.Onie.{onie}
 use mathlib.Core.Path.{_≡_, refl, ap}
 use mathlib.Core.Bool.{Bool, true, false, not, _&&_}
 use Prim.Native.Nat.{ℕ}
@@ -39,6 +40,9 @@ enum-told-2 c = search needs
 enum-told-3 : tie.Need-enum-told-3
 enum-told-3 c = search needs
 
+enum-told-4 : tie.Need-enum-told-4
+enum-told-4 c = search needs
+
 returns : tie.Need-returns
 unfolding fboss allMarked
 returns c = rw (c .before .before .before .before .before .enum-told .given .1, and-true)
@@ -50,6 +54,10 @@ returns-2 c = rw (c .enum-told2 .given .1)
 returns-3 : tie.Need-returns-3
 unfolding tiny allMarked
 returns-3 c = rw (c .enum-told3 .given .1)
+
+returns-4 : tie.Need-returns-4
+unfolding onie allMarked
+returns-4 c = rw (c .enum-told4 .given .1)
 
 pub is-complete-spec : {M : Type 1} → statement M
 is-complete-spec =
@@ -63,6 +71,8 @@ is-complete-spec =
     element-copy-out-result-5
     enum-told-2
     enum-told-3
+    enum-told-4
     returns
     returns-2
-    returns-3)
+    returns-3
+    returns-4)

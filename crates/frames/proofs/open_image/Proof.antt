@@ -4,6 +4,7 @@ use borrow.Author.Needs.{needs}
 use Rattle.layout.specs.Fboss.{fboss}
 use Rattle.layout.specs.Vpd.{vpd}
 use Rattle.layout.specs.Tiny.{tiny}
+use Rattle.layout.specs.Onie.{onie}
 use Rattle.frames.proofs.open_image.Statement.{statement}
 use Rattle.frames.proofs.open_image.Tie as tie
 
@@ -22,6 +23,12 @@ enum-told-3 c = search needs
 tiny-opened-requires : tie.Need-tiny-opened-requires
 tiny-opened-requires c κs = search needs
 
+enum-told-4 : tie.Need-enum-told-4
+enum-told-4 c = search needs
+
+onie-opened-requires : tie.Need-onie-opened-requires
+onie-opened-requires c κs = search needs
+
 returns : tie.Need-returns
 unfolding fboss
 returns c = rw (c .before .enum-told .given .1) (c .fboss-opened .ensures)
@@ -34,6 +41,10 @@ returns-3 : tie.Need-returns-3
 unfolding tiny
 returns-3 c = rw (c .before .enum-told3 .given .1) (c .tiny-opened .ensures)
 
+returns-4 : tie.Need-returns-4
+unfolding onie
+returns-4 c = rw (c .before .enum-told4 .given .1) (c .onie-opened .ensures)
+
 pub open-image-spec : {M : Type 1} → statement M
 open-image-spec =
     tie.close
@@ -43,6 +54,9 @@ open-image-spec =
     enum-told-2
     enum-told-3
     tiny-opened-requires
+    enum-told-4
+    onie-opened-requires
     returns
     returns-2
-    returns-3)
+    returns-3
+    returns-4)

@@ -4,6 +4,7 @@ use borrow.Author.Needs.{needs}
 use Rattle.layout.specs.Fboss.{fboss}
 use Rattle.layout.specs.Vpd.{vpd}
 use Rattle.layout.specs.Tiny.{tiny}
+use Rattle.layout.specs.Onie.{onie}
 use Rattle.frames.proofs.reader_key.Statement.{statement}
 use Rattle.frames.proofs.reader_key.Tie as tie
 
@@ -19,6 +20,9 @@ vpd-reader-key-requires c κs = search needs
 enum-told-3 : tie.Need-enum-told-3
 enum-told-3 c = search needs
 
+enum-told-4 : tie.Need-enum-told-4
+enum-told-4 c = search needs
+
 returns : tie.Need-returns
 unfolding fboss
 returns c = rw (c .enum-told .given .1)
@@ -31,6 +35,10 @@ returns-3 : tie.Need-returns-3
 unfolding tiny
 returns-3 c = rw (c .enum-told3 .given .1)
 
+returns-4 : tie.Need-returns-4
+unfolding onie
+returns-4 c = rw (c .enum-told4 .given .1)
+
 pub reader-key-spec : {M : Type 1} → statement M
 reader-key-spec =
     tie.close
@@ -39,6 +47,8 @@ reader-key-spec =
     enum-told-2
     vpd-reader-key-requires
     enum-told-3
+    enum-told-4
     returns
     returns-2
-    returns-3)
+    returns-3
+    returns-4)

@@ -4,6 +4,7 @@ use borrow.Author.Needs.{needs}
 use Rattle.layout.specs.Fboss.{fboss}
 use Rattle.layout.specs.Vpd.{vpd}
 use Rattle.layout.specs.Tiny.{tiny}
+use Rattle.layout.specs.Onie.{onie}
 use Rattle.frames.proofs.value_rule.Statement.{statement}
 use Rattle.frames.proofs.value_rule.Tie as tie
 
@@ -25,6 +26,12 @@ enum-told-3 c = search needs
 tiny-rule-requires : tie.Need-tiny-rule-requires
 tiny-rule-requires c κs = search needs
 
+enum-told-4 : tie.Need-enum-told-4
+enum-told-4 c = search needs
+
+onie-rule-requires : tie.Need-onie-rule-requires
+onie-rule-requires c κs = search needs
+
 returns : tie.Need-returns
 unfolding fboss
 returns c = rw (c .before .enum-told .given .1) (c .fboss-rule .ensures)
@@ -37,6 +44,10 @@ returns-3 : tie.Need-returns-3
 unfolding tiny
 returns-3 c = rw (c .before .enum-told3 .given .1) (c .tiny-rule .ensures)
 
+returns-4 : tie.Need-returns-4
+unfolding onie
+returns-4 c = rw (c .before .enum-told4 .given .1) (c .onie-rule .ensures)
+
 pub value-rule-spec : {M : Type 1} → statement M
 value-rule-spec =
     tie.close
@@ -47,6 +58,9 @@ value-rule-spec =
     vpd-rule-requires
     enum-told-3
     tiny-rule-requires
+    enum-told-4
+    onie-rule-requires
     returns
     returns-2
-    returns-3)
+    returns-3
+    returns-4)

@@ -8,6 +8,7 @@ use lib.ListN.{length}
 use Rattle.layout.specs.Fboss.{fboss}
 use Rattle.layout.specs.Vpd.{vpd}
 use Rattle.layout.specs.Tiny.{tiny}
+use Rattle.layout.specs.Onie.{onie, onieCheck}
 use Rattle.output.proofs.Lengths.{fits-known}
 use Rattle.output.proofs.Sealing.{finished-is, finished-not}
 use Rattle.output.proofs.finish.Statement.{statement}
@@ -46,6 +47,16 @@ finish-tiny-requires c κs =
     let known = fits-known tiny (a .n) (length (now (a .out))) (rw (c .before .enum-told3 .given .1) at (sym (c .before .before .before .before .fits2 .ensures) ∙ c .before .before .before .if1 .taken)) in
     omega arith
 
+enum-told-4 : tie.Need-enum-told-4
+enum-told-4 c = search needs
+
+finish-onie-requires : tie.Need-finish-onie-requires
+unfolding onie onieCheck
+finish-onie-requires c κs =
+    let a = c .before .before .before .before .before .before .args in
+    let known = fits-known onie (a .n) (length (now (a .out))) (rw (c .before .enum-told4 .given .1) at (sym (c .before .before .before .before .fits2 .ensures) ∙ c .before .before .before .if1 .taken)) in
+    omega arith
+
 same-length : tie.Need-same-length
 same-length c = search needs
 
@@ -73,8 +84,17 @@ returns-3 c =
     let f = c .before .before .before .before .enum-told3 .given .1 in
     rw f (c .before .before .finish-tiny .ensures ∙ finished-is tiny _ _ (rw f at (sym (c .before .before .before .before .before .before .before .fits2 .ensures) ∙ c .before .before .before .before .before .before .if1 .taken)))
 
+same-length-4 : tie.Need-same-length-4
+same-length-4 c = search needs
+
 returns-4 : tie.Need-returns-4
-returns-4 c = finished-not _ _ _ (sym (c .before .fits2 .ensures) ∙ c .if1 .left)
+unfolding onie
+returns-4 c =
+    let f = c .before .before .before .before .enum-told4 .given .1 in
+    rw f (c .before .before .finish-onie .ensures ∙ finished-is onie _ _ (rw f at (sym (c .before .before .before .before .before .before .before .fits2 .ensures) ∙ c .before .before .before .before .before .before .if1 .taken)))
+
+returns-5 : tie.Need-returns-5
+returns-5 c = finished-not _ _ _ (sym (c .before .fits2 .ensures) ∙ c .if1 .left)
 
 pub finish-spec : {M : Type 1} → statement M
 finish-spec =
@@ -87,10 +107,14 @@ finish-spec =
     finish-vpd-requires
     enum-told-3
     finish-tiny-requires
+    enum-told-4
+    finish-onie-requires
     same-length
     returns
     same-length-2
     returns-2
     same-length-3
     returns-3
-    returns-4)
+    same-length-4
+    returns-4
+    returns-5)

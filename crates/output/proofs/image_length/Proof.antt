@@ -6,6 +6,7 @@ use borrow.Author.Needs.{needs}
 use Rattle.layout.specs.Fboss.{fboss}
 use Rattle.layout.specs.Vpd.{vpd}
 use Rattle.layout.specs.Tiny.{tiny}
+use Rattle.layout.specs.Onie.{onie, onieCheck}
 use Rattle.output.specs.Lengths.{sealedLength}
 use Rattle.output.proofs.Lengths.{capped-min}
 use Rattle.output.proofs.image_length.Statement.{statement}
@@ -29,6 +30,12 @@ enum-told-3 c = search needs
 add-capped-requires-3 : tie.Need-add-capped-requires-3
 add-capped-requires-3 c κs = search needs
 
+enum-told-4 : tie.Need-enum-told-4
+enum-told-4 c = search needs
+
+add-capped-requires-4 : tie.Need-add-capped-requires-4
+add-capped-requires-4 c κs = search needs
+
 returns : tie.Need-returns
 unfolding fboss
 returns c =
@@ -47,6 +54,12 @@ returns-3 c =
     let n = c .before .before .before .args .n in
     rw (c .before .enum-told3 .given .1) (omega (arith, capped-min (n + 4), capped-min (sealedLength tiny n)))
 
+returns-4 : tie.Need-returns-4
+unfolding onie onieCheck
+returns-4 c =
+    let n = c .before .before .before .args .n in
+    rw (c .before .enum-told4 .given .1) (omega (arith, capped-min (n + 17), capped-min (sealedLength onie n)))
+
 pub image-length-spec : {M : Type 1} → statement M
 image-length-spec =
     tie.close
@@ -57,6 +70,9 @@ image-length-spec =
     add-capped-requires-2
     enum-told-3
     add-capped-requires-3
+    enum-told-4
+    add-capped-requires-4
     returns
     returns-2
-    returns-3)
+    returns-3
+    returns-4)

@@ -4,6 +4,7 @@ use borrow.Author.Needs.{needs}
 use Rattle.layout.specs.Fboss.{fboss}
 use Rattle.layout.specs.Vpd.{vpd}
 use Rattle.layout.specs.Tiny.{tiny}
+use Rattle.layout.specs.Onie.{onie}
 use Rattle.output.proofs.length_rule.Statement.{statement}
 use Rattle.output.proofs.length_rule.Tie as tie
 
@@ -19,6 +20,9 @@ enum-told-3 c = search needs
 tiny-takes-requires : tie.Need-tiny-takes-requires
 tiny-takes-requires c κs = search needs
 
+enum-told-4 : tie.Need-enum-told-4
+enum-told-4 c = search needs
+
 returns : tie.Need-returns
 unfolding fboss
 returns c = rw (c .enum-told .given .1)
@@ -31,7 +35,20 @@ returns-3 : tie.Need-returns-3
 unfolding tiny
 returns-3 c = rw (c .before .enum-told3 .given .1) (c .tiny-takes .ensures)
 
+returns-4 : tie.Need-returns-4
+unfolding onie
+returns-4 c = rw (c .enum-told4 .given .1)
+
 pub length-rule-spec : {M : Type 1} → statement M
 length-rule-spec =
     tie.close
-    (tie.spec enum-told enum-told-2 enum-told-3 tiny-takes-requires returns returns-2 returns-3)
+    (tie.spec
+    enum-told
+    enum-told-2
+    enum-told-3
+    tiny-takes-requires
+    enum-told-4
+    returns
+    returns-2
+    returns-3
+    returns-4)

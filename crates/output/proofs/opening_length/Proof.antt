@@ -7,6 +7,7 @@ use borrow.Author.Needs.{needs}
 use lib.ListN.{length}
 use Rattle.layout.specs.Fboss.{fboss}
 use Rattle.layout.specs.Tiny.{tiny}
+use Rattle.layout.specs.Onie.{onie}
 use Rattle.layout.specs.Vpd.{shortest}
 use Rattle.output.proofs.Lengths.{capped-min, length-keyed}
 use Rattle.output.proofs.opening_length.Statement.{statement}
@@ -30,6 +31,9 @@ add-capped-requires c κs = search needs
 enum-told-3 : tie.Need-enum-told-3
 enum-told-3 c = search needs
 
+enum-told-4 : tie.Need-enum-told-4
+enum-told-4 c = search needs
+
 returns : tie.Need-returns
 unfolding fboss
 returns c = rw (c .enum-told .given .1)
@@ -46,6 +50,10 @@ returns-3 : tie.Need-returns-3
 unfolding tiny
 returns-3 c = rw (c .enum-told3 .given .1)
 
+returns-4 : tie.Need-returns-4
+unfolding onie
+returns-4 c = rw (c .enum-told4 .given .1)
+
 pub opening-length-spec : {M : Type 1} → statement M
 opening-length-spec =
     tie.close
@@ -56,6 +64,8 @@ opening-length-spec =
     add-add-capped
     add-capped-requires
     enum-told-3
+    enum-told-4
     returns
     returns-2
-    returns-3)
+    returns-3
+    returns-4)

@@ -7,6 +7,7 @@ use borrow.Author.Needs.{needs}
 use Rattle.layout.specs.Vpd.{vpd}
 use Rattle.layout.specs.Fboss.{fboss}
 use Rattle.layout.specs.Tiny.{tiny}
+use Rattle.layout.specs.Onie.{onie}
 use Rattle.output.proofs.Lengths.{length-keyed}
 use Rattle.output.proofs.Overlay.{copied-then}
 use Rattle.output.proofs.write_opening.Statement.{statement}
@@ -51,6 +52,9 @@ copy-at-requires-2 c κs = search needs
 enum-told-3 : tie.Need-enum-told-3
 enum-told-3 c = search needs
 
+enum-told-4 : tie.Need-enum-told-4
+enum-told-4 c = search needs
+
 same-length : tie.Need-same-length
 same-length c = search needs
 
@@ -80,6 +84,13 @@ returns-3 : tie.Need-returns-3
 unfolding tiny
 returns-3 c = rw (c .enum-told3 .given .1) (c .before .before .before .before .copy-at .ensures)
 
+same-length-4 : tie.Need-same-length-4
+same-length-4 c = search needs
+
+returns-4 : tie.Need-returns-4
+unfolding onie
+returns-4 c = rw (c .enum-told4 .given .1) (c .before .before .before .before .copy-at .ensures)
+
 pub write-opening-spec : {M : Type 1} → statement M
 write-opening-spec =
     tie.close
@@ -96,9 +107,12 @@ write-opening-spec =
     add-copy-at-2
     copy-at-requires-2
     enum-told-3
+    enum-told-4
     same-length
     returns
     same-length-2
     returns-2
     same-length-3
-    returns-3)
+    returns-3
+    same-length-4
+    returns-4)

@@ -1,19 +1,19 @@
--- `fboss::all_between` meets its contract: a loop that tests each byte.
+-- `parts::all_between` meets its contract: a loop that tests each byte.
 -- Assumes nothing.
 use Prim.Native.Nat.{_-_}
 use lib.ListN.{length}
 use borrow.Author.Needs.{needs}
 use Rattle.layout.specs.Bytes.{between}
 use Rattle.parts.proofs.Loops.{Passing, passes, fails, passed}
 use Rattle.parts.proofs.Tests.{tests}
-use Rattle.fboss.proofs.all_between.Statement.{statement}
-use Rattle.fboss.proofs.all_between.Tie as tie
+use Rattle.parts.proofs.all_between.Statement.{statement}
+use Rattle.parts.proofs.all_between.Tie as tie
 
 abbrev Inv-loop : tie.InvT-loop
-Inv-loop v low high i₀ i = Passing (between low high) v i
+Inv-loop v low high at₀ at = Passing (between low high) v at
 
 abbrev μ-loop : tie.MeasureT-loop
-μ-loop v low high i₀ i = length v - i
+μ-loop v low high at₀ at = length v - at
 
 loop-holds : tie.Need-loop-holds Inv-loop μ-loop
 loop-holds c = search needs
@@ -30,8 +30,8 @@ shared-slice-read-if2 c = search needs
 returns-2 : tie.Need-returns-2 Inv-loop μ-loop
 returns-2 c = fails _ _ _ (c .before .before .before .before .before .loop .inv) (search needs) (search tests)
 
-add-i : tie.Need-add-i Inv-loop μ-loop
-add-i c = search needs
+add-at : tie.Need-add-at Inv-loop μ-loop
+add-at c = search needs
 
 loop-less : tie.Need-loop-less Inv-loop μ-loop
 loop-less c = search needs
@@ -53,7 +53,7 @@ all-between-spec =
     returns
     shared-slice-read-if2
     returns-2
-    add-i
+    add-at
     loop-less
     loop-again
     returns-3)

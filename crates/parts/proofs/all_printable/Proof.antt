@@ -1,8 +1,8 @@
--- `fboss::all_printable` meets its contract: the bounds of text.
+-- `parts::all_printable` meets its contract: the bounds of text.
 -- Assumes nothing.
 use borrow.Author.Needs.{needs}
-use Rattle.fboss.proofs.all_printable.Statement.{statement}
-use Rattle.fboss.proofs.all_printable.Tie as tie
+use Rattle.parts.proofs.all_printable.Statement.{statement}
+use Rattle.parts.proofs.all_printable.Tie as tie
 
 all-between-requires : tie.Need-all-between-requires
 all-between-requires c κs = search needs

@@ -1,0 +1,20 @@
+-- The rule on a value, where its code lies in a range.
+-- Assumes nothing.
+use Prim.Native.Nat.{ℕ, zero, suc, _+_, _≤_, _<_}
+use mathlib.Core.Path.{_≡_, sym}
+use mathlib.Core.Bool.{Bool}
+use mathlib.Core.Logic.{⊎-elim}
+use native.Mathlib.Nat.{eq-or-lt-of-le}
+use native.Mathlib.Omega.{arith}
+
+module _ (rule : ℕ → Bool) (r : Bool) (c : ℕ) where
+  -- r is what the rule gives for each of the n codes from a on, if c is that code
+  abbrev pub Each : ℕ → ℕ → Type 0
+  Each a zero = Unit {0}
+  Each a (suc n) = (c ≡ a → r ≡ rule a) × Each (suc a) n
+
+  -- Then it is what the rule gives for c.
+  pub among : (a n : ℕ) → a ≤ c → c < a + n → Each a n → r ≡ rule c
+  among a zero le lt e = absurd (omega arith)
+  among a (suc n) le lt (p, ps) =
+      ⊎-elim (λ e. rw e at (p (sym e))) (λ h. among (suc a) n h (omega arith) ps) (eq-or-lt-of-le le)
