@@ -1,7 +1,9 @@
 /*
  * edit: gives one entry of an image file a new value.
  *
- *     edit [-x] [-s SIZE] fboss|vpd|tiny FILE ENTRY VALUE
+ *     edit [-x] [-s SIZE] fboss|vpd|tiny|onie FILE ENTRY VALUE
+ *
+ * Compiled with the header of edition 1 or 2, it has no onie.
  *
  * ENTRY is the entry's number, as the example list prints it. VALUE is the new value as text; with
  * -x it is bytes in hexadecimal, which may be parted by colons or spaces. The file keeps its size,
@@ -233,7 +235,7 @@ static int edit(const char *name, const char *path, uint32_t format, uint64_t en
 /* Says how the program is used; returns the exit status. */
 static int usage(void)
 {
-    fprintf(stderr, "usage: edit [-x] [-s SIZE] fboss|vpd|tiny FILE ENTRY VALUE\n"
+    fprintf(stderr, "usage: edit [-x] [-s SIZE] " FORMAT_WORDS " FILE ENTRY VALUE\n"
                     "  -x       VALUE is bytes in hexadecimal, as 0a1b or 0a:1b\n"
                     "  -s SIZE  the size of the new file, at most 65536; else it stays\n"
                     "  ENTRY    the entry's number, as list prints it\n");

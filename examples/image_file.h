@@ -26,6 +26,13 @@ struct image_file {
     size_t length;
 };
 
+/* The words for the formats that this edition has. */
+#if BOARDID_EDITION >= 3
+#define FORMAT_WORDS "fboss|vpd|tiny|onie"
+#else
+#define FORMAT_WORDS "fboss|vpd|tiny"
+#endif
+
 /* The number of the format that the user names; 0 of any other word. */
 static uint32_t format_of_word(const char *word)
 {
@@ -38,6 +45,11 @@ static uint32_t format_of_word(const char *word)
     if (strcmp(word, "tiny") == 0) {
         return BOARDID_FORMAT_TINY;
     }
+#if BOARDID_EDITION >= 3
+    if (strcmp(word, "onie") == 0) {
+        return BOARDID_FORMAT_ONIE;
+    }
+#endif
     return 0;
 }
 

@@ -1,7 +1,9 @@
 /*
  * list: lists the entries of an image file as a person would read them.
  *
- *     list fboss|vpd|tiny FILE
+ *     list fboss|vpd|tiny|onie FILE
+ *
+ * Compiled with the header of edition 1 or 2, it has no onie.
  *
  * One line gives the file, its format, the edition of the header that this program was compiled
  * with, and how many entries there are. Then each entry has a line: its number, its name and its
@@ -70,6 +72,18 @@ static const struct name names[] = {
     {BOARDID_KIND(BOARDID_FORMAT_TINY, BOARDID_TINY_SYSTEM_PRODUCT_IDENTITY_BATCH),
      "System product identity w/ batch code"},
 #endif
+#if BOARDID_EDITION >= 3
+    {BOARDID_KIND(BOARDID_FORMAT_ONIE, BOARDID_ONIE_PRODUCT_NAME), "Product Name"},
+    {BOARDID_KIND(BOARDID_FORMAT_ONIE, BOARDID_ONIE_PART_NUMBER), "Part Number"},
+    {BOARDID_KIND(BOARDID_FORMAT_ONIE, BOARDID_ONIE_SERIAL_NUMBER), "Serial Number"},
+    {BOARDID_KIND(BOARDID_FORMAT_ONIE, BOARDID_ONIE_BASE_MAC_ADDRESS), "MAC #1 Base"},
+    {BOARDID_KIND(BOARDID_FORMAT_ONIE, BOARDID_ONIE_MANUFACTURE_DATE), "Manufacture Date"},
+    {BOARDID_KIND(BOARDID_FORMAT_ONIE, BOARDID_ONIE_MAC_ADDRESS_COUNT), "Num MACs"},
+    {BOARDID_KIND(BOARDID_FORMAT_ONIE, BOARDID_ONIE_MANUFACTURER), "Manufacturer"},
+    {BOARDID_KIND(BOARDID_FORMAT_ONIE, BOARDID_ONIE_COUNTRY_CODE), "Country Code"},
+    {BOARDID_KIND(BOARDID_FORMAT_ONIE, BOARDID_ONIE_VENDOR), "Vendor"},
+    {BOARDID_KIND(BOARDID_FORMAT_ONIE, BOARDID_ONIE_VENDOR_EXTENSION), "Vendor Extension"},
+#endif
 };
 
 /* The name of a format. */
@@ -80,6 +94,10 @@ static const char *format_name(uint32_t format)
         return "FBOSS v5";
     case BOARDID_FORMAT_VPD:
         return "VPD 2.0";
+#if BOARDID_EDITION >= 3
+    case BOARDID_FORMAT_ONIE:
+        return "ONIE TlvInfo version 1";
+#endif
     default:
         return "Tiny EEPROM version 2";
     }
@@ -298,6 +316,10 @@ static void print_name(uint32_t format, const struct image_file *image,
         printf("code %lu", (unsigned long)record->code);
     } else if (format == BOARDID_FORMAT_TINY) {
         printf("tag %02lXh", (unsigned long)record->code);
+#if BOARDID_EDITION >= 3
+    } else if (format == BOARDID_FORMAT_ONIE) {
+        printf("code %02lXh", (unsigned long)record->code);
+#endif
     } else {
         printf("type %02lXh ", (unsigned long)record->code);
     }
@@ -356,7 +378,7 @@ int main(int argc, char **argv)
     int status;
 
     if (format == 0) {
-        fprintf(stderr, "usage: list fboss|vpd|tiny FILE\n");
+        fprintf(stderr, "usage: list " FORMAT_WORDS " FILE\n");
         return BAD_USAGE;
     }
     if (read_image_file(argv[2], &image) != 0) {

@@ -1,2 +1,2 @@
 /* boardid.h of the newest edition. */
-#include "edition-2/boardid.h"
+#include "edition-3/boardid.h"

@@ -2,6 +2,8 @@
  * Every call through a header's functions, on the cases of the scope document and of
  * docs/DECISIONS.md (their numbers, as D13, stand beside them). Compiled once with each edition's
  * header. All lent memory ends at a page that may not be touched.
+ *
+ * Format 4, ONIE, is a number here: the headers of editions 1 and 2 have no name for it.
  */
 #define _DEFAULT_SOURCE
 
@@ -15,12 +17,32 @@
 /* A VPD image with the keys lab.rack, its length in two bytes, 22h of an FEh, and 22h 00h FFh. */
 #define NAMES "01 80 08 " LAB_RACK " 03 52 30 37 FE 01 22 04 01 02 03 04 01 03 22 00 FF 00 FF AA"
 
+/* ONIE's magic and version; the length, the entries and the end follow. */
+#define ONIE "54 6C 76 49 6E 66 6F 00 01 "
+
+/* What ONIE images are written from: at 0 LEAF, at 4 an enterprise number, at 8 a 3, at 10 CZ. */
+#define ONIE_VALUES "4C 45 41 46 00 00 1F 79 00 03 43 5A"
+
+/* An ONIE image of four entries: 21h, 26h, which no edition names, and FDh twice. */
+#define ONIE_FOUR \
+    ONIE "00 19 21 01 41 26 01 01 FD 04 00 00 1F 79 FD 05 00 00 1F 79 00 FE 04 0F 05 E4 95"
+
 /* What a call answers: a refusal's number and place, or 0, 0 and a count. */
 struct outcome {
     uint32_t number;
     uint64_t place;
     uint32_t count;
 };
+
+/*
+ * What this edition answers to a case: the first of the two answers before the edition that brought
+ * something new to the format, and the second from it on. To formats 1 to 3 that is edition 2, with
+ * more names; format 4 came with edition 3, so that its first answer is 16.
+ */
+static struct outcome outcome_of(uint32_t format, const struct outcome by_edition[2])
+{
+    return by_edition[BOARDID_EDITION >= (format == 4 ? 3 : 2)];
+}
 
 /* Expects an answer, every bit of it. */
 static void expect_answer(uint64_t answer, struct outcome outcome, const char *what)
@@ -50,7 +72,7 @@ static void expect_count(uint64_t answer, uint32_t count, const char *what)
 
 /* ---- Images --------------------------------------------------------------------------------- */
 
-/* An image, and what check answers in edition 1 and in edition 2. */
+/* An image, and what check answers, by outcome_of. */
 struct image_case {
     const char *what;
     uint32_t format;
@@ -203,7 +225,247 @@ static const struct image_case image_cases[] = {
      {{0, 0, 2}, {8, 12, 0}}},
     {"D18: a string number without a pool", 3, "56 02 06 10 07 A2", {{0, 0, 1}, {0, 0, 1}}},
 
+    {"ONIE: no bytes", 4, "", {{16, 0, 0}, {3, 0, 0}}},
+    {"ONIE: ten bytes", 4, ONIE "00", {{16, 0, 0}, {3, 0, 0}}},
+    {"ONIE: ten bytes of version 2", 4, "54 6C 76 49 6E 66 6F 00 02 00", {{16, 0, 0}, {3, 0, 0}}},
+    {"ONIE: wrong magic",
+     4,
+     "74 6C 76 49 6E 66 6F 00 01 00 06 FE 04 67 3D 57 ED",
+     {{16, 0, 0}, {3, 0, 0}}},
+    {"ONIE: no zero after the magic",
+     4,
+     "54 6C 76 49 6E 66 6F 20 01 00 06 FE 04 D3 EF 19 2E",
+     {{16, 0, 0}, {3, 0, 0}}},
+    {"ONIE: version 2",
+     4,
+     "54 6C 76 49 6E 66 6F 00 02 00 06 FE 04 93 E3 66 C8",
+     {{16, 0, 0}, {4, 0, 0}}},
+    {"ONIE: version before the length",
+     4,
+     "54 6C 76 49 6E 66 6F 00 00 FF FF FE 04 8D 33 7B 06",
+     {{16, 0, 0}, {4, 0, 0}}},
+    {"ONIE: no entries", 4, ONIE "00 06 FE 04 D4 43 1C 18", {{16, 0, 0}, {0, 0, 0}}},
+    {"ONIE: bytes after the room",
+     4,
+     ONIE "00 06 FE 04 D4 43 1C 18 00 FF FE",
+     {{16, 0, 0}, {0, 0, 0}}},
+    {"ONIE: wrong check", 4, ONIE "00 06 FE 04 D4 43 1C 19", {{16, 0, 0}, {10, 13, 0}}},
+    {"ONIE: the check low byte first",
+     4,
+     ONIE "00 06 FE 04 18 1C 43 D4",
+     {{16, 0, 0}, {10, 13, 0}}},
+    {"ONIE: the check without FE 04", 4, ONIE "00 06 FE 04 2B B7 6C 4C", {{16, 0, 0}, {10, 13, 0}}},
+    {"ONIE: a length past the image", 4, ONIE "00 07 FE 04 D5 81 76 2F", {{16, 0, 0}, {5, 9, 0}}},
+    {"ONIE: a length above 2,048", 4, ONIE "08 01 FE 04 14 B8 22 72", {{16, 0, 0}, {5, 9, 0}}},
+    {"ONIE: the length before a forbidden code",
+     4,
+     ONIE "00 09 00 FE 04 CF BD B7 65",
+     {{16, 0, 0}, {5, 9, 0}}},
+    {"ONIE: a length of 0", 4, ONIE "00 00", {{16, 0, 0}, {5, 11, 0}}},
+    {"ONIE: a length of 0, the end after the room",
+     4,
+     ONIE "00 00 FE 04 D0 CE 60 AA",
+     {{16, 0, 0}, {5, 11, 0}}},
+    {"ONIE: a length that leaves a byte",
+     4,
+     ONIE "00 07 FE 04 D5 81 76 2F 00",
+     {{16, 0, 0}, {5, 9, 0}}},
+    {"ONIE: the same with a wrong check",
+     4,
+     ONIE "00 07 FE 04 00 00 00 00 00",
+     {{16, 0, 0}, {5, 9, 0}}},
+    {"ONIE: a second end in the room",
+     4,
+     ONIE "00 0C FE 04 D9 D4 99 CE FE 04 D4 43 1C 18",
+     {{16, 0, 0}, {5, 9, 0}}},
+    {"ONIE: a forbidden code before that",
+     4,
+     ONIE "00 08 00 FE 04 77 01 D0 00 00",
+     {{16, 0, 0}, {6, 11, 0}}},
+    {"ONIE: FE", 4, ONIE "00 01 FE", {{16, 0, 0}, {5, 11, 0}}},
+    {"ONIE: FE, its length after the room",
+     4,
+     ONIE "00 01 FE 04 00 00 00 00",
+     {{16, 0, 0}, {5, 11, 0}}},
+    {"ONIE: FE 04", 4, ONIE "00 02 FE 04", {{16, 0, 0}, {5, 11, 0}}},
+    {"ONIE: FE 04 and three bytes", 4, ONIE "00 05 FE 04 00 00 00", {{16, 0, 0}, {5, 11, 0}}},
+    {"ONIE: FE 04 and three bytes of the room",
+     4,
+     ONIE "00 05 FE 04 D6 05 A2 41",
+     {{16, 0, 0}, {5, 11, 0}}},
+    {"ONIE: FE 05", 4, ONIE "00 02 FE 05", {{16, 0, 0}, {6, 11, 0}}},
+    {"ONIE: FE 03 and its value", 4, ONIE "00 05 FE 03 00 00 00", {{16, 0, 0}, {6, 11, 0}}},
+    {"ONIE: FE 00", 4, ONIE "00 02 FE 00", {{16, 0, 0}, {6, 11, 0}}},
+    {"ONIE: FE 03 after an entry",
+     4,
+     ONIE "00 0E 26 01 01 FE 03 00 00 00 FE 04 D0 04 F2 3F",
+     {{16, 0, 0}, {6, 14, 0}}},
+    {"ONIE: code 00h", 4, ONIE "00 01 00", {{16, 0, 0}, {6, 11, 0}}},
+    {"ONIE: code 00h and a length",
+     4,
+     ONIE "00 08 00 00 FE 04 84 11 7D A9",
+     {{16, 0, 0}, {6, 11, 0}}},
+    {"ONIE: code FFh", 4, ONIE "00 01 FF", {{16, 0, 0}, {6, 11, 0}}},
+    {"ONIE: code FFh after an entry",
+     4,
+     ONIE "00 0A 26 00 FF 00 FE 04 64 25 AC 5E",
+     {{16, 0, 0}, {6, 13, 0}}},
+    {"ONIE: a length that is missing", 4, ONIE "00 01 21", {{16, 0, 0}, {5, 11, 0}}},
+    {"ONIE: a length after the room", 4, ONIE "00 01 21 00", {{16, 0, 0}, {5, 11, 0}}},
+    {"ONIE: a value past the room", 4, ONIE "00 02 21 01 41", {{16, 0, 0}, {5, 11, 0}}},
+    {"ONIE: a value that takes the end",
+     4,
+     ONIE "00 09 21 08 41 FE 04 A8 F9 6C 41",
+     {{16, 0, 0}, {5, 11, 0}}},
+    {"ONIE: no end", 4, ONIE "00 05 26 00 27 01 00", {{16, 0, 0}, {5, 16, 0}}},
+    {"ONIE: an end after the room",
+     4,
+     ONIE "00 02 26 00 FE 04 4B F8 95 EA",
+     {{16, 0, 0}, {5, 13, 0}}},
+    {"ONIE: an empty text", 4, ONIE "00 08 21 00 FE 04 9C 9F B5 F2", {{16, 0, 0}, {0, 0, 1}}},
+    {"ONIE: 20h and 7Eh in a text",
+     4,
+     ONIE "00 0A 21 02 20 7E FE 04 23 B8 23 13",
+     {{16, 0, 0}, {0, 0, 1}}},
+    {"ONIE: 1Fh in a text", 4, ONIE "00 09 21 01 1F FE 04 B3 D3 20 71", {{16, 0, 0}, {7, 11, 0}}},
+    {"ONIE: the same with a wrong check",
+     4,
+     ONIE "00 09 21 01 1F FE 04 00 00 00 00",
+     {{16, 0, 0}, {10, 16, 0}}},
+    {"ONIE: 7Fh in a text",
+     4,
+     ONIE "00 0D 21 01 41 22 02 42 7F FE 04 41 A8 86 7A",
+     {{16, 0, 0}, {7, 14, 0}}},
+    {"ONIE: 23h, 2Bh and 2Dh of other bytes than text",
+     4,
+     ONIE "00 0D 2D 00 2B 00 23 01 E9 FE 04 82 0A F7 43",
+     {{16, 0, 0}, {7, 15, 0}}},
+    {"ONIE: an address of five bytes",
+     4,
+     ONIE "00 0D 24 05 00 00 00 00 00 FE 04 33 1D FB 84",
+     {{16, 0, 0}, {7, 11, 0}}},
+    {"ONIE: an address of six bytes",
+     4,
+     ONIE "00 0E 24 06 00 00 00 00 00 00 FE 04 CE EF 7C 7F",
+     {{16, 0, 0}, {0, 0, 1}}},
+    {"ONIE: an address of eight bytes",
+     4,
+     ONIE "00 10 24 08 00 00 00 00 00 00 00 00 FE 04 40 B8 C4 30",
+     {{16, 0, 0}, {7, 11, 0}}},
+    {"ONIE: a date of any digits",
+     4,
+     ONIE "00 1B 25 13 39 39 2F 30 30 2F 30 30 30 30 20 39 39 3A 39 39 3A 39 39 FE 04 CF "
+     "01 6A E2",
+     {{16, 0, 0}, {0, 0, 1}}},
+    {"ONIE: a date of 18 bytes",
+     4,
+     ONIE "00 1A 25 12 31 2F 30 32 2F 32 30 32 34 20 30 33 3A 30 34 3A 30 35 FE 04 6E A1 "
+     "6B 04",
+     {{16, 0, 0}, {7, 11, 0}}},
+    {"ONIE: a date of 20 bytes",
+     4,
+     ONIE "00 1C 25 14 30 31 2F 30 32 2F 32 30 32 34 20 30 33 3A 30 34 3A 30 35 5A FE 04 "
+     "6E 64 93 24",
+     {{16, 0, 0}, {7, 11, 0}}},
+    {"ONIE: a date with a letter",
+     4,
+     ONIE "00 1B 25 13 30 31 2F 30 32 2F 32 30 32 34 20 30 33 3A 30 34 3A 30 41 FE 04 90 "
+     "C5 18 E1",
+     {{16, 0, 0}, {7, 11, 0}}},
+    {"ONIE: a date with a dash",
+     4,
+     ONIE "00 1B 25 13 30 31 2D 30 32 2F 32 30 32 34 20 30 33 3A 30 34 3A 30 35 FE 04 B7 "
+     "89 DE 9C",
+     {{16, 0, 0}, {7, 11, 0}}},
+    {"ONIE: a date with a T",
+     4,
+     ONIE "00 1B 25 13 30 31 2F 30 32 2F 32 30 32 34 54 30 33 3A 30 34 3A 30 35 FE 04 8D "
+     "C6 F9 1C",
+     {{16, 0, 0}, {7, 11, 0}}},
+    {"ONIE: a date of eight digits",
+     4,
+     ONIE "00 10 25 08 32 30 32 34 30 31 30 32 FE 04 4D 11 90 0D",
+     {{16, 0, 0}, {7, 11, 0}}},
+    {"ONIE: a count of one byte",
+     4,
+     ONIE "00 09 2A 01 03 FE 04 D1 3F 4B 74",
+     {{16, 0, 0}, {7, 11, 0}}},
+    {"ONIE: a count of two bytes",
+     4,
+     ONIE "00 0A 2A 02 00 00 FE 04 B7 22 39 B4",
+     {{16, 0, 0}, {0, 0, 1}}},
+    {"ONIE: a count of three bytes",
+     4,
+     ONIE "00 0B 2A 03 00 00 03 FE 04 4D 6D 44 B7",
+     {{16, 0, 0}, {7, 11, 0}}},
+    {"ONIE: country CZ", 4, ONIE "00 0A 2C 02 43 5A FE 04 89 F1 86 1C", {{16, 0, 0}, {0, 0, 1}}},
+    {"ONIE: country AZ, the ends of the alphabet",
+     4,
+     ONIE "00 0A 2C 02 41 5A FE 04 23 F8 4E 97",
+     {{16, 0, 0}, {0, 0, 1}}},
+    {"ONIE: country cz", 4, ONIE "00 0A 2C 02 63 7A FE 04 11 8E 6F C2", {{16, 0, 0}, {7, 11, 0}}},
+    {"ONIE: country @Z, before A",
+     4,
+     ONIE "00 0A 2C 02 40 5A FE 04 9B 44 29 F2",
+     {{16, 0, 0}, {7, 11, 0}}},
+    {"ONIE: country A[, after Z",
+     4,
+     ONIE "00 0A 2C 02 41 5B FE 04 22 3A 24 A0",
+     {{16, 0, 0}, {7, 11, 0}}},
+    {"ONIE: country of one letter",
+     4,
+     ONIE "00 09 2C 01 43 FE 04 2E E5 33 14",
+     {{16, 0, 0}, {7, 11, 0}}},
+    {"ONIE: country of three letters",
+     4,
+     ONIE "00 0B 2C 03 43 5A 45 FE 04 E1 49 4D A0",
+     {{16, 0, 0}, {7, 11, 0}}},
+    {"ONIE: FDh of three bytes",
+     4,
+     ONIE "00 0B FD 03 00 00 1F FE 04 36 35 23 68",
+     {{16, 0, 0}, {7, 11, 0}}},
+    {"ONIE: FDh of four bytes",
+     4,
+     ONIE "00 0C FD 04 00 00 1F 79 FE 04 3D DF A0 A8",
+     {{16, 0, 0}, {0, 0, 1}}},
+    {"ONIE: FDh three times",
+     4,
+     ONIE "00 19 FD 04 00 00 1F 79 FD 04 00 00 1F 79 FD 05 FF 00 00 00 00 FE 04 CB 53 7B "
+     "F4",
+     {{16, 0, 0}, {0, 0, 3}}},
+    {"ONIE: FDh, then one of no bytes",
+     4,
+     ONIE "00 0E FD 04 00 00 1F 79 FD 00 FE 04 31 53 0C F0",
+     {{16, 0, 0}, {7, 17, 0}}},
+    {"ONIE: 21h twice",
+     4,
+     ONIE "00 0C 21 01 41 21 01 41 FE 04 9C 4E A7 A5",
+     {{16, 0, 0}, {8, 14, 0}}},
+    {"ONIE: 2Ah twice",
+     4,
+     ONIE "00 10 2A 02 00 01 26 00 2A 02 00 02 FE 04 BC 37 91 66",
+     {{16, 0, 0}, {8, 17, 0}}},
+    {"ONIE: 7 before 8",
+     4,
+     ONIE "00 0D 2C 02 43 5A 2C 01 43 FE 04 94 A7 82 09",
+     {{16, 0, 0}, {7, 15, 0}}},
+    {"ONIE: entry by entry",
+     4,
+     ONIE "00 0C 21 00 21 00 2C 00 FE 04 ED 6C 35 EB",
+     {{16, 0, 0}, {8, 13, 0}}},
+    {"ONIE: what no edition names",
+     4,
+     ONIE "00 21 26 01 FF 27 01 FF 28 01 FF 29 01 FF 2E 01 FF 2F 01 FF 20 01 FF 01 01 FF "
+     "FC 01 FF FE 04 97 43 47 9C",
+     {{16, 0, 0}, {0, 0, 9}}},
+    {"ONIE: 26h twice, of any bytes",
+     4,
+     ONIE "00 0C 26 02 01 02 26 00 FE 04 62 E7 9B E9",
+     {{16, 0, 0}, {0, 0, 2}}},
+
     {"format 0", 0, "00", {{16, 0, 0}, {16, 0, 0}}},
+    {"format 5", 5, "00", {{16, 0, 0}, {16, 0, 0}}},
+    {"D6: format 260", 260, ONIE "00 06 FE 04 D4 43 1C 18", {{16, 0, 0}, {16, 0, 0}}},
     {"D6: format 257", 257, "FB FB 05 FF", {{16, 0, 0}, {16, 0, 0}}},
     {"D6: format 2^31 + 2", 0x80000002, "00", {{16, 0, 0}, {16, 0, 0}}},
 };
@@ -384,7 +646,7 @@ static void images(void)
 
     for (i = 0; i < sizeof image_cases / sizeof image_cases[0]; i++) {
         const struct image_case *c = &image_cases[i];
-        struct outcome outcome = c->by_edition[BOARDID_EDITION - 1];
+        struct outcome outcome = outcome_of(c->format, c->by_edition);
         struct lent image = lend_hex(c->image), before = lend_copy(image.bytes, image.length);
 
         expect_answer(boardid_check_image(c->format, image.bytes, image.length), outcome, c->what);
@@ -469,6 +731,22 @@ static void records(void)
         {0x81, 2, {24, 25, 0, 25, 8}, 7, {0, 1, 0x99, 0x63, 0, 0xFF, 9999}},
         {0x01, 1, {33, 35, 0, 35, 4}, 0, {0, 0, 0, 0, 0, 0, 0}},
     };
+#if BOARDID_EDITION >= 3
+    static const struct record_case onie[] = {
+        {0x21, 3, {11, 13, 0, 13, 2}, 1, {0, 0, 0, 0, 0, 0, 0}},
+        {0x22, 3, {15, 17, 0, 17, 0}, 1, {0, 0, 0, 0, 0, 0, 0}},
+        {0x23, 3, {17, 19, 0, 19, 2}, 1, {0, 0, 0, 0, 0, 0, 0}},
+        {0x24, 3, {21, 23, 0, 23, 6}, 3, {0x021A, 0x2B3C4D5E, 1, 0, 0, 0, 0}},
+        {0x25, 3, {29, 31, 0, 31, 19}, 1, {0, 0, 0, 0, 0, 0, 0}},
+        {0x26, 0, {50, 52, 0, 52, 1}, 0, {0, 0, 0, 0, 0, 0, 0}},
+        {0x2A, 3, {53, 55, 0, 55, 2}, 2, {0xFF03, 0, 0, 0, 0, 0, 0}},
+        {0x2B, 3, {57, 59, 0, 59, 1}, 1, {0, 0, 0, 0, 0, 0, 0}},
+        {0x2C, 3, {60, 62, 0, 62, 2}, 1, {0, 0, 0, 0, 0, 0, 0}},
+        {0x2D, 3, {64, 66, 0, 66, 1}, 1, {0, 0, 0, 0, 0, 0, 0}},
+        {0xFD, 3, {67, 69, 0, 69, 5}, 0, {0, 0, 0, 0, 0, 0, 0}},
+        {0xFD, 3, {74, 76, 0, 76, 4}, 0, {0, 0, 0, 0, 0, 0, 0}},
+    };
+#endif
 
     expect_records(1,
                    "FB FB 05 FF 08 01 FE 01 02 41 42 09 01 02 0A 01 03 0B 00 15 02 00 FF "
@@ -481,6 +759,14 @@ static void records(void)
                    "56 02 28 10 01 11 F5 60 02 1A 2B 3C 4D 5E 61 00 01 80 05 41 31 02 01 AA "
                    "81 00 01 99 63 00 FF 0F 27 01 04 41 C2 C3 44 DE",
                    tiny, sizeof tiny / sizeof tiny[0], "records of Tiny");
+#if BOARDID_EDITION >= 3
+    expect_records(4,
+                   ONIE "00 4B 21 02 41 42 22 00 23 02 53 31 24 06 02 1A 2B 3C 4D 5E 25 13 30 32 "
+                   "2F 30 33 2F 32 30 32 34 20 30 34 3A 30 35 3A 30 36 26 01 01 2A 02 FF 03 2B 01 "
+                   "4D 2C 02 43 5A 2D 01 56 FD 05 00 00 1F 79 00 FD 04 00 00 1F 79 FE 04 81 37 40 "
+                   "15",
+                   onie, sizeof onie / sizeof onie[0], "records of ONIE");
+#endif
 }
 
 /* ---- Strings, walks, editions --------------------------------------------------------------- */
@@ -545,10 +831,41 @@ static void cut_walks(void)
     give_back(image);
 }
 
-/* The exported calls with editions that no header has. */
+/* Every exported call with format 4 and an edition that does not have it: one number, at 0. */
+static void onie_refused(uint32_t e, uint32_t number, const char *what)
+{
+    struct lent image = lend_hex(ONIE "00 06 FE 04 D4 43 1C 18"), record = lend(64), out = lend(20);
+    struct lent walk = lend(BOARDID_WALK_SIZE);
+
+    expect_refused(boardid_check(4, e, image.bytes, image.length), number, 0, what);
+    expect_refused(boardid_check(4, e, image.bytes, 0), number, 0, what);
+    expect_refused(boardid_list(4, e, image.bytes, image.length, record.bytes, 64), number, 0,
+                   what);
+    expect_refused(boardid_entry(4, e, image.bytes, image.length, 0, record.bytes, 64), number, 0,
+                   what);
+    expect_refused(boardid_value(4, e, image.bytes, image.length, 0), number, 0, what);
+    expect_refused(boardid_string(4, e, image.bytes, image.length, 0), 16, 0, what);
+    expect_refused(boardid_write(4, e, NULL, 0, NULL, 0, out.bytes, out.length), number, 0, what);
+    expect_refused(boardid_edit(4, e, image.bytes, image.length, 0, NULL, 0, out.bytes, out.length),
+                   number, 0, what);
+    boardid_walk_set(walk.bytes, 4, 0);
+    boardid_word_set(walk.bytes, 1, e);
+    expect_refused(boardid_step(walk.bytes, walk.length, image.bytes, image.length, record.bytes,
+                                record.length),
+                   number, 0, what);
+    expect_number(boardid_walk_entry(walk.bytes), 0, what);
+    expect(all_are(record, 0, 0x5A), what);
+    expect(all_are(out, 0, 0x5A), what);
+    give_back(walk);
+    give_back(out);
+    give_back(record);
+    give_back(image);
+}
+
+/* The exported calls with editions that no header has: 4 is one past the newest. */
 static void editions(void)
 {
-    static const uint32_t unknown[] = {0, 99, 257, 0x80000001};
+    static const uint32_t unknown[] = {0, 4, 99, 257, 0x80000001};
     struct lent image = lend_hex("56 02 04 6F"), record = lend(64), out = lend(10);
     size_t i;
 
@@ -573,7 +890,14 @@ static void editions(void)
                        "D19: 16 before 1");
         expect_refused(boardid_write(0, e, NULL, 0, NULL, 0, out.bytes, out.length), 16, 0,
                        "write: 16 before 1");
+        onie_refused(e, 1, "format 4, an unknown edition");
     }
+    for (i = 1; i <= 3; i++) {
+        expect_count(boardid_check(3, (uint32_t)i, image.bytes, image.length), 0,
+                     "edition: 1 to 3 are known");
+    }
+    onie_refused(1, 16, "format 4, edition 1");
+    onie_refused(2, 16, "format 4, edition 2");
     expect(all_are(record, 0, 0x5A), "an unknown edition leaves the record");
     expect(all_are(out, 0, 0x5A), "an unknown edition leaves the output");
     give_back(out);
@@ -659,6 +983,51 @@ static const struct write_case write_cases[] = {
     {"FBOSS without 11", 1, 4,
      {{1, 0, 0, 0, 0}, {8, 0, 0, 0, 1}, {9, 0, 0, 1, 1}, {10, 0, 0, 2, 1}},
      "01 02 03", 0, {{11, 0, 0}, {11, 0, 0}}, ""},
+    {"ONIE of no fields", 4, 0, {{0, 0, 0, 0, 0}}, "", 20,
+     {{16, 0, 0}, {0, 0, 17}}, ONIE "00 06 FE 04 D4 43 1C 18"},
+    {"ONIE of no fields, exact room", 4, 0, {{0, 0, 0, 0, 0}}, "", 17,
+     {{16, 0, 0}, {0, 0, 17}}, ONIE "00 06 FE 04 D4 43 1C 18"},
+    {"ONIE of no fields, no room", 4, 0, {{0, 0, 0, 0, 0}}, "", 16, {{16, 0, 0}, {12, 0, 0}}, ""},
+    {"ONIE, in list order", 4, 6,
+     {{0x23, 0, 0, 0, 4}, {0xFD, 0, 0, 4, 4}, {0x2A, 0, 0, 8, 2}, {0xFD, 0, 0, 4, 8},
+      {0x2C, 0, 0, 10, 2}, {0x21, 0, 0, 0, 0}},
+     ONIE_VALUES, 49,
+     {{16, 0, 0}, {0, 0, 49}},
+     ONIE "00 26 23 04 4C 45 41 46 FD 04 00 00 1F 79 2A 02 00 03 FD 08 00 00 1F 79 00 03 43 5A "
+     "2C 02 43 5A 21 00 FE 04 55 D6 32 A5"},
+    {"ONIE, no room", 4, 6,
+     {{0x23, 0, 0, 0, 4}, {0xFD, 0, 0, 4, 4}, {0x2A, 0, 0, 8, 2}, {0xFD, 0, 0, 4, 8},
+      {0x2C, 0, 0, 10, 2}, {0x21, 0, 0, 0, 0}},
+     ONIE_VALUES, 48,
+     {{16, 0, 0}, {12, 0, 0}}, ""},
+    {"ONIE: a key is not looked at", 4, 1, {{0x21, 99, 99, 0, 4}}, ONIE_VALUES, 30,
+     {{16, 0, 0}, {0, 0, 23}}, ONIE "00 0C 21 04 4C 45 41 46 FE 04 80 01 04 E9"},
+    {"ONIE: 26h", 4, 2, {{0x21, 0, 0, 0, 4}, {0x26, 0, 0, 0, 1}}, ONIE_VALUES, 30,
+     {{16, 0, 0}, {14, 1, 0}}, ""},
+    {"ONIE: code 00h", 4, 1, {{0x00, 0, 0, 0, 4}}, ONIE_VALUES, 30, {{16, 0, 0}, {14, 0, 0}}, ""},
+    {"ONIE: code FEh", 4, 1, {{0xFE, 0, 0, 0, 4}}, ONIE_VALUES, 30, {{16, 0, 0}, {14, 0, 0}}, ""},
+    {"ONIE: code FFh", 4, 2, {{0x21, 0, 0, 0, 4}, {0xFF, 0, 0, 0, 4}}, ONIE_VALUES, 30,
+     {{16, 0, 0}, {14, 1, 0}}, ""},
+    {"ONIE: code 121h", 4, 1, {{0x121, 0, 0, 0, 4}}, ONIE_VALUES, 30, {{16, 0, 0}, {14, 0, 0}}, ""},
+    {"ONIE: 14 before 13", 4, 1, {{0x28, 0, 0, 13, 1}}, ONIE_VALUES, 30,
+     {{16, 0, 0}, {14, 0, 0}}, ""},
+    {"ONIE: 13 before 7", 4, 1, {{0x24, 0, 0, 13, 1}}, ONIE_VALUES, 30,
+     {{16, 0, 0}, {13, 0, 0}}, ""},
+    {"ONIE: an address of four bytes", 4, 2, {{0x21, 0, 0, 0, 4}, {0x24, 0, 0, 0, 4}},
+     ONIE_VALUES, 40,
+     {{16, 0, 0}, {7, 1, 0}}, ""},
+    {"ONIE: FDh of three bytes", 4, 2, {{0xFD, 0, 0, 4, 4}, {0xFD, 0, 0, 4, 3}}, ONIE_VALUES, 40,
+     {{16, 0, 0}, {7, 1, 0}}, ""},
+    {"ONIE: a country of four bytes", 4, 1, {{0x2C, 0, 0, 0, 4}}, ONIE_VALUES, 40,
+     {{16, 0, 0}, {7, 0, 0}}, ""},
+    {"ONIE: 7 before 8", 4, 2, {{0x2C, 0, 0, 10, 2}, {0x2C, 0, 0, 8, 2}}, ONIE_VALUES, 40,
+     {{16, 0, 0}, {7, 1, 0}}, ""},
+    {"ONIE: 21h twice", 4, 3, {{0x21, 0, 0, 0, 4}, {0x22, 0, 0, 0, 4}, {0x21, 0, 0, 0, 1}},
+     ONIE_VALUES, 60,
+     {{16, 0, 0}, {8, 2, 0}}, ""},
+    {"ONIE: field by field", 4, 3, {{0x21, 0, 0, 0, 4}, {0x21, 0, 0, 0, 1}, {0x26, 0, 0, 0, 1}},
+     ONIE_VALUES, 60,
+     {{16, 0, 0}, {8, 1, 0}}, ""},
     {"format 0", 0, 0, {{0, 0, 0, 0, 0}}, "", 3, {{16, 0, 0}, {16, 0, 0}}, ""},
 };
 
@@ -685,7 +1054,7 @@ static void writes(void)
 
     for (i = 0; i < sizeof write_cases / sizeof write_cases[0]; i++) {
         const struct write_case *c = &write_cases[i];
-        struct outcome outcome = c->by_edition[BOARDID_EDITION - 1];
+        struct outcome outcome = outcome_of(c->format, c->by_edition);
         struct lent fields = lend(c->count * BOARDID_FIELD_SIZE);
         struct lent cut = lend(c->count * BOARDID_FIELD_SIZE + BOARDID_FIELD_SIZE - 1);
         struct lent values = lend_hex(c->values), out = lend(c->out_length);
@@ -769,6 +1138,28 @@ static const struct edit_case edit_cases[] = {
      40,
      {{14, 17, 0}, {0, 0, 31}},
      "FB FB 05 FF 01 00 08 01 01 09 01 01 0A 01 01 0B 00 11 08 02 00 00 00 00 01 00 00 FA 02 12 06"},
+    {"ONIE: 21h to BC", 4, ONIE_FOUR, 0, "42 43", 39, {{16, 0, 0}, {0, 0, 37}},
+     ONIE "00 1A 21 02 42 43 26 01 01 FD 04 00 00 1F 79 FD 05 00 00 1F 79 00 FE 04 F2 84 47 08"},
+    {"ONIE: 21h to BC, no room", 4, ONIE_FOUR, 0, "42 43", 36, {{16, 0, 0}, {12, 0, 0}}, ""},
+    {"ONIE: 21h to nothing", 4, ONIE_FOUR, 0, "", 36, {{16, 0, 0}, {0, 0, 35}},
+     ONIE "00 18 21 00 26 01 01 FD 04 00 00 1F 79 FD 05 00 00 1F 79 00 FE 04 94 34 0D E9"},
+    {"ONIE: 21h to 1Fh", 4, ONIE_FOUR, 0, "1F", 60, {{16, 0, 0}, {7, 11, 0}}, ""},
+    {"ONIE: 26h", 4, ONIE_FOUR, 1, "02", 60, {{16, 0, 0}, {14, 14, 0}}, ""},
+    {"ONIE: 26h, 14 before 12", 4, ONIE_FOUR, 1, "02", 0, {{16, 0, 0}, {14, 14, 0}}, ""},
+    {"ONIE: the first FDh", 4, ONIE_FOUR, 2, "01 02 03 04 05 06", 60, {{16, 0, 0}, {0, 0, 38}},
+     ONIE "00 1B 21 01 41 26 01 01 FD 06 01 02 03 04 05 06 FD 05 00 00 1F 79 00 FE 04 2A 6E A5 5C"},
+    {"ONIE: the second FDh", 4, ONIE_FOUR, 3, "01 02 03 04", 60, {{16, 0, 0}, {0, 0, 35}},
+     ONIE "00 18 21 01 41 26 01 01 FD 04 00 00 1F 79 FD 04 01 02 03 04 FE 04 13 F7 1D 91"},
+    {"ONIE: FDh to three bytes", 4, ONIE_FOUR, 3, "01 02 03", 60, {{16, 0, 0}, {7, 23, 0}}, ""},
+    {"ONIE: no entry 4", 4, ONIE_FOUR, 4, "01", 60, {{16, 0, 0}, {13, 0, 0}}, ""},
+    {"ONIE: what follows the end goes", 4,
+     ONIE "00 0A 2C 02 43 5A FE 04 89 F1 86 1C AA BB", 0, "44 45", 24,
+     {{16, 0, 0}, {0, 0, 21}}, ONIE "00 0A 2C 02 44 45 FE 04 03 5C 5A E8"},
+    {"ONIE: a country to three letters", 4,
+     ONIE "00 0A 2C 02 43 5A FE 04 89 F1 86 1C AA BB", 0, "43 5A 45", 24,
+     {{16, 0, 0}, {7, 11, 0}}, ""},
+    {"ONIE: no entries", 4, ONIE "00 06 FE 04 D4 43 1C 18", 0, "", 40,
+     {{16, 0, 0}, {13, 0, 0}}, ""},
 };
 
 static void edits(void)
@@ -777,7 +1168,7 @@ static void edits(void)
 
     for (i = 0; i < sizeof edit_cases / sizeof edit_cases[0]; i++) {
         const struct edit_case *c = &edit_cases[i];
-        struct outcome outcome = c->by_edition[BOARDID_EDITION - 1];
+        struct outcome outcome = outcome_of(c->format, c->by_edition);
         struct lent image = lend_hex(c->image), before = lend_copy(image.bytes, image.length);
         struct lent value = lend_hex(c->value), out = lend(c->out_length);
 
@@ -978,6 +1369,137 @@ static void most_entries(void)
     give_back(image);
 }
 
+#if BOARDID_EDITION >= 3
+/* Puts ONIE's header with a length at the front of an image. */
+static void onie_header(struct lent image, uint32_t length)
+{
+    struct lent start = lend_hex(ONIE);
+
+    memcpy(image.bytes, start.bytes, start.length);
+    image.bytes[9] = (uint8_t)(length >> 8);
+    image.bytes[10] = (uint8_t)length;
+    give_back(start);
+}
+
+/* Puts ONIE's end with a check at a place of an image. */
+static void onie_end(struct lent image, size_t place, uint32_t check)
+{
+    image.bytes[place] = 0xFE;
+    image.bytes[place + 1] = 4;
+    image.bytes[place + 2] = (uint8_t)(check >> 24);
+    image.bytes[place + 3] = (uint8_t)(check >> 16);
+    image.bytes[place + 4] = (uint8_t)(check >> 8);
+    image.bytes[place + 5] = (uint8_t)check;
+}
+
+/* The longest ONIE image has a length of 2,048, here of as many entries as can be: 1,021. */
+static void onie_lengths(void)
+{
+    struct lent image = lend(2060), records = lend(1021 * BOARDID_RECORD_SIZE);
+    size_t i;
+
+    for (i = 11; i < 2053; i += 2) {
+        image.bytes[i] = 0x63;
+        image.bytes[i + 1] = 0;
+    }
+    onie_header(image, 2048);
+    onie_end(image, 2053, 0x87E6BB60);
+    expect_count(boardid_check_image(4, image.bytes, image.length), 1021, "ONIE: 1,021 entries");
+    expect_count(boardid_list_entries(4, image.bytes, 2059, records.bytes, records.length), 1021,
+                 "ONIE: a list of 1,021 entries");
+    expect_number(boardid_record_at(records.bytes, 1020).place, 2051, "ONIE: the last entry");
+    expect_refused(boardid_check_image(4, image.bytes, 2058), 5, 9, "ONIE: a byte too few");
+    image.bytes[2058]++;
+    expect_refused(boardid_check_image(4, image.bytes, 2059), 10, 2055, "ONIE: the last byte");
+
+    /* One byte more: a first entry of one byte. Everything but the length is right. */
+    image.bytes[12] = 1;
+    image.bytes[13] = 0;
+    for (i = 14; i < 2054; i += 2) {
+        image.bytes[i] = 0x63;
+        image.bytes[i + 1] = 0;
+    }
+    onie_header(image, 2049);
+    onie_end(image, 2054, 0x62C15057);
+    expect_refused(boardid_check_image(4, image.bytes, image.length), 5, 9,
+                   "ONIE: a length of 2,049");
+    give_back(records);
+    give_back(image);
+}
+
+/* Writes and edits around the longest ONIE image: eight FDh, all of 255 bytes but the last. */
+static void onie_room(void)
+{
+    struct lent fields = lend(8 * BOARDID_FIELD_SIZE), values = lend(256), out = lend(70), image;
+    struct boardid_field field = {0xFD, 0, 0, 0, 255};
+    struct lent longest = lend(BOARDID_IMAGE_MAX), end = lend(6);
+    uint32_t k;
+
+    memset(values.bytes, 0x41, values.length);
+    for (k = 0; k < 7; k++) {
+        boardid_field_set(fields.bytes, k, field);
+    }
+    field.value_length = 242;
+    boardid_field_set(fields.bytes, 7, field);
+    expect_refused(boardid_write_image(4, fields.bytes, fields.length, values.bytes, values.length,
+                                       longest.bytes, longest.length),
+                   12, 0, "ONIE: a write of length 2,049");
+    expect(all_are(longest, 0, 0x5A), "ONIE: a write that is too long leaves the output");
+    field.value_length = 241;
+    boardid_field_set(fields.bytes, 7, field);
+    expect_refused(boardid_write_image(4, fields.bytes, fields.length, values.bytes, values.length,
+                                       longest.bytes, 2058),
+                   12, 0, "ONIE: a write into 2,058 bytes");
+    expect_count(boardid_write_image(4, fields.bytes, fields.length, values.bytes, values.length,
+                                     longest.bytes, longest.length),
+                 2059, "ONIE: a write of length 2,048");
+    onie_end(end, 0, 0xD2DAF907);
+    expect(memcmp(longest.bytes + 2053, end.bytes, end.length) == 0, "ONIE: the end as written");
+    expect(all_are(longest, 2059, 0xFF), "ONIE: FFh after the longest image");
+    expect_count(boardid_check_image(4, longest.bytes, longest.length), 8, "ONIE: it is read");
+
+    /* The new value of the last entry may not grow. */
+    image = lend_copy(longest.bytes, 2059);
+    memset(longest.bytes, 0x5A, longest.length);
+    expect_refused(boardid_edit_entry(4, image.bytes, image.length, 7, values.bytes, 242,
+                                      longest.bytes, longest.length),
+                   12, 0, "ONIE: an edit to length 2,049");
+    expect_refused(boardid_edit_entry(4, image.bytes, image.length, 7, values.bytes, 256,
+                                      longest.bytes, longest.length),
+                   7, 1810, "ONIE: an edit to 256 bytes, 7 before 12");
+    expect(all_are(longest, 0, 0x5A), "ONIE: a refused edit leaves the output");
+    expect_count(boardid_edit_entry(4, image.bytes, image.length, 7, values.bytes, 241,
+                                    longest.bytes, longest.length),
+                 2059, "ONIE: an edit to length 2,048");
+    expect(memcmp(longest.bytes, image.bytes, image.length) == 0, "ONIE: an edit to what was");
+    expect_count(boardid_edit_entry(4, image.bytes, image.length, 0, values.bytes, 4, longest.bytes,
+                                    longest.length),
+                 1808, "ONIE: an edit that makes it shorter");
+    give_back(image);
+
+    /* A text of 255 bytes is the longest; 256 break the rule, whatever the room. */
+    field.code = 0x21;
+    field.value_length = 256;
+    boardid_field_set(fields.bytes, 0, field);
+    expect_refused(boardid_write_image(4, fields.bytes, BOARDID_FIELD_SIZE, values.bytes,
+                                       values.length, out.bytes, out.length),
+                   7, 0, "ONIE: a text of 256 bytes");
+    field.value_length = 255;
+    boardid_field_set(fields.bytes, 0, field);
+    expect_refused(boardid_write_image(4, fields.bytes, BOARDID_FIELD_SIZE, values.bytes,
+                                       values.length, out.bytes, out.length),
+                   12, 0, "ONIE: a text of 255 bytes, no room");
+    expect_count(boardid_write_image(4, fields.bytes, BOARDID_FIELD_SIZE, values.bytes,
+                                     values.length, longest.bytes, longest.length),
+                 274, "ONIE: a text of 255 bytes");
+    give_back(end);
+    give_back(longest);
+    give_back(out);
+    give_back(values);
+    give_back(fields);
+}
+#endif
+
 int main(void)
 {
     images();
@@ -991,5 +1513,9 @@ int main(void)
     most_keys();
     sizes();
     most_entries();
+#if BOARDID_EDITION >= 3
+    onie_lengths();
+    onie_room();
+#endif
     return expectations_met("calls");
 }

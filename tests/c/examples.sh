@@ -1,6 +1,6 @@
 #!/usr/bin/env bash
 # Runs the examples on copies of the samples and prints each command with what it writes and its exit status; run.sh compares that with examples.out.
-# Usage: examples.sh FOLDER, which has the programs list and edit, and list-1 and edit-1 compiled with the header of edition 1.
+# Usage: examples.sh FOLDER, which has the programs list and edit, and list-N and edit-N compiled with the headers of editions 1 and 2.
 set -uo pipefail
 programs=$(cd "$1" && pwd)
 samples=$(cd "$(dirname "$0")/../../samples" && pwd)
@@ -27,10 +27,14 @@ run list vpd sku.vpd
 run list vpd board.vpd
 run list vpd names.vpd
 run list tiny tiny.bin
+run list onie onie.bin
 run list-1 fboss fboss.bin
 run list-1 vpd board.vpd
 run list-1 vpd names.vpd
 run list-1 tiny tiny.bin
+run list-2 fboss fboss.bin
+run list-2 vpd board.vpd
+run list-2 tiny tiny.bin
 
 echo '# list: what the samples do not show'
 printf '\xFB\xFB\x05\xFF\x01\x03"\\~\x08\x01\xFF\x09\x01\x00\x0A\x01\x09\x0B\x00\x63\x03\x00\x41\xFF\x15\x00\xFA\x02\x16\xAC' >unnamed.fboss
@@ -43,6 +47,11 @@ printf '\x56\x02\x1C\x10\x07\x11\xF8\x23\xAA\xBB\x61\x00\x09\x63\x63\x00\xFF\x01
 run list tiny odd.tiny
 printf '\x56\x02\x06\x01\x00\xF5' >no_strings.tiny
 run list tiny no_strings.tiny
+printf 'TlvInfo\x00\x01\x00\x06\xFE\x04\xD4\x43\x1C\x18' >empty.onie
+run list onie empty.onie
+printf 'TlvInfo\x00\x01\x00\x3D\x2F\x00\x21\x03"\\~\x24\x06\xFF\xFF\xFF\xFF\xFF\xFF\x2A\x02\xFF\xFF' >odd.onie
+printf '\x25\x13%s\xFD\x04\x00\x00\x1F\x79\xFD\x04LAB\x0A\x01\x01\x1B\xFE\x04\x81\x73\xBB\xDA' '99/99/9999 99:99:99' >>odd.onie
+run list onie odd.onie
 
 echo '# list: refusals and failures'
 run list vpd tiny.bin
@@ -61,6 +70,15 @@ run list vpd longest.vpd
 run list vpd missing.vpd
 run list vpd .
 run list onie sku.vpd
+printf 'TlvInfo\x00\x01\x00\x0C\x21\x01A\x21\x01B\xFE\x04\x9E\x08\x19\xFC' >twice.onie
+run list onie twice.onie
+printf 'TlvInfo\x00\x01\x00\x08\xFE\x04\xDE\xDD\x31\x12\x00\x00' >length.onie
+run list onie length.onie
+printf 'TlvInfo\x00\x01\x00\x0A\x2C\x02CZ\xFE\x04\x89\xF1\x86\x1D' >check.onie
+run list onie check.onie
+run list-1 onie onie.bin
+run list-2 onie onie.bin
+run list eeprom onie.bin
 run list vpd
 echo '$ list vpd sku.vpd >/dev/full'
 { "$programs/list" vpd sku.vpd >/dev/full; } 2>&1
@@ -95,6 +113,16 @@ run list fboss fboss.bin
 run edit -x tiny tiny.bin 1 0f
 run edit -x -s 80 tiny tiny.bin 7 53:b9:50:b8:52:b7:51:b6
 run list tiny tiny.bin
+run edit onie onie.bin 2 LAB-472
+run edit -x onie onie.bin 3 02:1a:2b:3c:4d:60
+run edit onie onie.bin 4 '12/31/2024 23:59:59'
+run edit -x onie onie.bin 8 0010
+run edit onie onie.bin 10 DE
+run edit -x onie onie.bin 12 '00 00 1F 79'
+run list onie onie.bin
+run edit -s 174 onie onie.bin 9 Works
+run edit onie onie.bin 9 ''
+run bytes onie.bin
 
 echo '# edit: a symbolic link stays one'
 ln -s board.vpd link.vpd
@@ -110,6 +138,13 @@ run edit -x vpd board.vpd 0 000081
 run edit vpd board.vpd 4 x
 run edit vpd board.vpd 18446744073709551615 x
 run edit fboss fboss.bin 12 20231301
+run edit -x onie onie.bin 5 02
+run edit onie onie.bin 4 2024-12-31
+run edit onie onie.bin 10 Germany
+run edit -x onie onie.bin 12 001f79
+run edit onie onie.bin 9 'longer than the file has room for'
+run edit onie twice.onie 0 x
+run edit-2 onie onie.bin 0 x
 run edit fboss board.vpd 0 x
 run edit vpd same_name.vpd 0 x
 run edit vpd no_name.vpd 0 x

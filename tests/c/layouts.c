@@ -65,6 +65,23 @@ static void constants(void)
     expect_number(BOARDID_TINY_SYSTEM_PRODUCT_IDENTITY_BATCH, 0x81, "Tiny 81h");
     expect_number(BOARDID_READING_IDENTITY_WITH_BATCH, 7, "reading 7");
 #endif
+#if BOARDID_EDITION >= 3
+    expect_number(BOARDID_FORMAT_ONIE, 4, "format ONIE");
+    expect_number(BOARDID_ONIE_PRODUCT_NAME, 0x21, "ONIE 21h");
+    expect_number(BOARDID_ONIE_PART_NUMBER, 0x22, "ONIE 22h");
+    expect_number(BOARDID_ONIE_SERIAL_NUMBER, 0x23, "ONIE 23h");
+    expect_number(BOARDID_ONIE_BASE_MAC_ADDRESS, 0x24, "ONIE 24h");
+    expect_number(BOARDID_ONIE_MANUFACTURE_DATE, 0x25, "ONIE 25h");
+    expect_number(BOARDID_ONIE_MAC_ADDRESS_COUNT, 0x2A, "ONIE 2Ah");
+    expect_number(BOARDID_ONIE_MANUFACTURER, 0x2B, "ONIE 2Bh");
+    expect_number(BOARDID_ONIE_COUNTRY_CODE, 0x2C, "ONIE 2Ch");
+    expect_number(BOARDID_ONIE_VENDOR, 0x2D, "ONIE 2Dh");
+    expect_number(BOARDID_ONIE_VENDOR_EXTENSION, 0xFD, "ONIE FDh");
+    expect_number(BOARDID_KIND(BOARDID_FORMAT_ONIE, BOARDID_ONIE_PRODUCT_NAME), 1057,
+                  "kind of ONIE 21h");
+    expect_number(BOARDID_KIND(BOARDID_FORMAT_ONIE, BOARDID_ONIE_VENDOR_EXTENSION), 1277,
+                  "kind of ONIE FDh");
+#endif
 
     expect_number(BOARDID_KIND(BOARDID_FORMAT_VPD, BOARDID_VPD_STRING), 513, "kind of VPD 01h");
     expect_number(BOARDID_KIND(BOARDID_FORMAT_TINY, BOARDID_TINY_PRODUCT_IDENTITY), 865,

@@ -1,11 +1,13 @@
 /*
  * An old tool and a new one on the same images. This program is compiled once with each edition's
- * header, and each is linked with the one library. The images have, in each format, entries that
- * edition 2 names and edition 1 does not, and entries that neither names; one has VPD keys that are
- * read and not written.
+ * header, and each is linked with the one library. The images have, in formats 1 to 3, entries that
+ * edition 2 names and edition 1 does not, and entries that no edition names; one has VPD keys that
+ * are read and not written. The ONIE image has entries that edition 3 names and entries that none
+ * names; editions 1 and 2, which do not have its format, refuse every call on it with 16.
  *
- *     old_header list FOLDER        expects this edition's kinds, and writes what every edition must
- *                                   list alike (codes, keys, values) to FOLDER/edition-N.list
+ *     old_header list FOLDER        expects this edition's kinds, and writes what every edition that
+ *                                   has the format must list alike (codes, keys, values) to a file
+ *                                   for each image, FOLDER/NAME-N.list in edition N
  *     old_header edit FOLDER        edits each entry that this edition names, each into a file
  *     old_header read FOLDER N      reads what edition N edited, and expects that only that one
  *                                   value is changed
@@ -25,9 +27,11 @@ struct entry_case {
     const char *value;
 };
 
+/* An image: its format with the first edition that has it, its bytes and its entries. */
 struct image_case {
     const char *name;
     uint32_t format;
+    uint32_t since;
     const char *image;
     uint32_t count;
     struct entry_case entries[MOST_ENTRIES];
@@ -36,6 +40,7 @@ struct image_case {
 static const struct image_case images[] = {
     {"fboss",
      BOARDID_FORMAT_FBOSS,
+     1,
      "FB FB 05 FF 01 07 4C 45 41 46 2D 33 32 08 01 01 09 01 02 11 08 02 1A 2B 3C 4D 5E 00 10 "
      "0A 01 03 12 08 02 1A 2B 3C 4D 6E 00 01 63 03 00 FF 7F 0B 07 53 4E 2D 30 30 30 31 "
      "13 08 02 1A 2B 3C 4D 7E 01 00 14 08 02 1A 2B 3C 4D 8E FF FF 0D 08 32 30 32 34 30 31 33 31 "
@@ -55,6 +60,7 @@ static const struct image_case images[] = {
       {21, 0, ""}}},
     {"vpd",
      BOARDID_FORMAT_VPD,
+     1,
      "01 03 53 4B 55 02 41 37 FE 08 67 56 70 64 49 6E 66 6F 80 04 2A 00 00 00 "
      "01 80 06 73 65 72 69 61 6C 80 80 03 31 32 33 01 03 6D 61 63 06 02 1A 2B 3C 4D 5E FF AA 01",
      4,
@@ -64,12 +70,14 @@ static const struct image_case images[] = {
       {0x01, 1, ""}}},
     {"names",
      BOARDID_FORMAT_VPD,
+     1,
      "01 80 08 6C 61 62 2E 72 61 63 6B 03 52 30 37 FE 01 22 80 04 01 02 03 04 "
      "01 03 22 00 FF 80 00 01 03 53 4B 55 02 41 37 FF AA",
      4,
      {{0x01, 1, "42"}, {0xFE, 2, "00 00 00 2A"}, {0x01, 1, "00 FF 22"}, {0x01, 1, ""}}},
     {"tiny",
      BOARDID_FORMAT_TINY,
+     1,
      "56 02 3E 80 00 01 80 05 41 31 2A 00 10 00 23 AA BB 11 05 81 01 00 63 63 42 32 0F 27 "
      "61 00 01 02 0A 2D 2D 62 01 00 99 00 58 59 60 02 1A 2B 3C 4D 5E 02 03 01 02 03 "
      "01 05 53 B1 50 4E B2 0C 00 11",
@@ -84,9 +92,35 @@ static const struct image_case images[] = {
       {0x60, 1, "00 00 00 00 00 01"},
       {0x02, 0, "01"},
       {0x01, 1, "53 32 B2 50 4E 33 B3 C1"}}},
+    {"onie",
+     4, /* BOARDID_FORMAT_ONIE, which the headers of editions 1 and 2 do not have */
+     3,
+     "54 6C 76 49 6E 66 6F 00 01 00 57 FD 06 00 00 1F 79 00 01 21 04 4C 45 41 46 26 01 01 "
+     "25 13 30 32 2F 30 33 2F 32 30 32 34 20 30 34 3A 30 35 3A 30 36 2F 00 24 06 02 1A 2B 3C 4D 5E "
+     "2A 02 00 03 2C 02 43 5A 28 08 78 38 36 5F 36 34 2D FF FD 06 00 00 1F 79 00 02 2D 00 "
+     "23 03 53 4E 31 FE 04 22 39 59 54 00 11",
+     12,
+     {{0xFD, 3, "00 00 1F 79"},
+      {0x21, 3, "53 50 49 4E 45 2D 36 34"},
+      {0x26, 0, "02"},
+      {0x25, 3, "30 35 2F 30 36 2F 32 30 32 35 20 30 37 3A 30 38 3A 30 39"},
+      {0x2F, 0, ""},
+      {0x24, 3, "00 00 00 00 00 01"},
+      {0x2A, 3, "FF FF"},
+      {0x2C, 3, "44 45"},
+      {0x28, 0, "78"},
+      {0xFD, 3, "FF FF FF FF 00 01 02 03 04 05 06 07 08 09"},
+      {0x2D, 3, "56"},
+      {0x23, 3, ""}}},
 };
 
 enum { IMAGES = sizeof images / sizeof images[0] };
+
+/* Whether an edition has the format of an image. */
+static int has(uint32_t edition, const struct image_case *c)
+{
+    return c->since <= edition;
+}
 
 /* Whether an edition names an entry of the cases. */
 static int names(uint32_t edition, const struct entry_case *entry)
@@ -111,6 +145,41 @@ static struct list list_of(const struct image_case *c, struct lent image)
     expect_number(boardid_answer_number(answer), 0, c->name);
     list.count = boardid_answer_count(answer);
     return list;
+}
+
+static void expect_no_format(uint64_t answer, const char *what)
+{
+    expect_number(boardid_answer_number(answer), BOARDID_REFUSED_FORMAT, what);
+    expect_number(boardid_answer_place(answer), 0, what);
+}
+
+/* Expects 16 of every call that is lent an image whose format this edition does not have. */
+static void expect_refused_whole(const struct image_case *c, struct lent image)
+{
+    struct lent lent = lend(BOARDID_IMAGE_MAX), walk = lend(BOARDID_WALK_SIZE);
+
+    expect_no_format(boardid_check_image(c->format, image.bytes, image.length), c->name);
+    expect_no_format(boardid_list_entries(c->format, image.bytes, image.length, lent.bytes,
+                                          lent.length),
+                     c->name);
+    expect_no_format(boardid_entry_at(c->format, image.bytes, image.length, 0, lent.bytes,
+                                      lent.length),
+                     c->name);
+    expect_no_format(boardid_value_at(c->format, image.bytes, image.length, 0), c->name);
+    expect_no_format(boardid_string_at(c->format, image.bytes, image.length, 0), c->name);
+    boardid_walk_set(walk.bytes, c->format, 0);
+    expect_no_format(boardid_walk_step(walk.bytes, walk.length, image.bytes, image.length,
+                                       lent.bytes, lent.length),
+                     c->name);
+    expect_number(boardid_walk_entry(walk.bytes), 0, c->name);
+    expect_no_format(boardid_write_image(c->format, NULL, 0, NULL, 0, lent.bytes, lent.length),
+                     c->name);
+    expect_no_format(boardid_edit_entry(c->format, image.bytes, image.length, 0, NULL, 0,
+                                        lent.bytes, lent.length),
+                     c->name);
+    expect(all_are(lent, 0, 0x5A), c->name);
+    give_back(walk);
+    give_back(lent);
 }
 
 /* Whether a part of one image has the bytes of a part of another. */
@@ -174,18 +243,25 @@ static void print_bytes(FILE *file, const uint8_t *bytes, uint32_t length)
 /* Lists every image: the kinds are this edition's, codes, keys and values every edition's. */
 static void list_all(const char *folder)
 {
-    FILE *file = fopen(path_in(folder, "edition", BOARDID_EDITION, "list"), "w");
     uint32_t i, n, w;
 
-    if (file == NULL) {
-        perror(folder);
-        exit(1);
-    }
     for (i = 0; i < IMAGES; i++) {
         const struct image_case *c = &images[i];
         struct lent image = lend_hex(c->image);
-        struct list list = list_of(c, image);
+        struct list list;
+        FILE *file;
 
+        if (!has(BOARDID_EDITION, c)) {
+            expect_refused_whole(c, image);
+            give_back(image);
+            continue;
+        }
+        file = fopen(path_in(folder, c->name, BOARDID_EDITION, "list"), "w");
+        if (file == NULL) {
+            perror(folder);
+            exit(1);
+        }
+        list = list_of(c, image);
         expect_number(list.count, c->count, c->name);
         for (n = 0; n < list.count; n++) {
             const struct entry_case *entry = &c->entries[n];
@@ -206,9 +282,9 @@ static void list_all(const char *folder)
             print_bytes(file, image.bytes + record.value_place, record.value_length);
             fprintf(file, "\n");
         }
+        fclose(file);
         give_back(image);
     }
-    fclose(file);
 }
 
 /* Edits each entry that this edition names; expects 14 and no change for every other. */
@@ -219,8 +295,14 @@ static void edit_all(const char *folder)
     for (i = 0; i < IMAGES; i++) {
         const struct image_case *c = &images[i];
         struct lent image = lend_hex(c->image);
-        struct list list = list_of(c, image);
+        struct list list;
 
+        if (!has(BOARDID_EDITION, c)) {
+            expect_refused_whole(c, image);
+            give_back(image);
+            continue;
+        }
+        list = list_of(c, image);
         for (n = 0; n < c->count; n++) {
             struct lent value = lend_hex(c->entries[n].value), out = lend(image.length + 20);
             uint64_t answer = boardid_edit_entry(c->format, image.bytes, image.length, n,
@@ -296,8 +378,13 @@ static void read_all(const char *folder, uint32_t editor)
                 struct lent whole = read_file(path_in(folder, c->name, n, "whole"));
                 struct lent part = read_file(path_in(folder, c->name, n, "image"));
 
-                expect_one_change(c, image, whole, n, value);
-                expect_one_change(c, image, part, n, value);
+                if (has(BOARDID_EDITION, c)) {
+                    expect_one_change(c, image, whole, n, value);
+                    expect_one_change(c, image, part, n, value);
+                } else {
+                    expect_refused_whole(c, whole);
+                    expect_refused_whole(c, part);
+                }
                 expect(all_are(whole, part.length, 0xFF), c->name);
                 give_back(part);
                 give_back(whole);

@@ -58,6 +58,19 @@ int main()
 #if BOARDID_EDITION >= 2
     good = good && boardid_record_batch(&entry) == 0;
 #endif
+#if BOARDID_EDITION >= 3
+    static const uint8_t letters[] = {'C', 'Z'};
+    const boardid_field country = {BOARDID_ONIE_COUNTRY_CODE, 0, 0, 0, 2};
+    uint8_t onie[21];
+    boardid_field_set(field, 0, country);
+    answer = boardid_write_image(BOARDID_FORMAT_ONIE, field, sizeof field, letters, sizeof letters,
+                                 onie, sizeof onie);
+    good = good && boardid_answer_count(answer) == sizeof onie;
+    good = good && boardid_answer_count(boardid_entry_at(BOARDID_FORMAT_ONIE, onie, sizeof onie, 0,
+                                                         record, sizeof record)) == 1;
+    good = good && boardid_record_at(record, 0).kind ==
+                       BOARDID_KIND(BOARDID_FORMAT_ONIE, BOARDID_ONIE_COUNTRY_CODE);
+#endif
     std::printf("plus_plus: %s\n", good ? boardid_refusal_text(BOARDID_NOT_REFUSED) : "wrong");
     return good ? 0 : 1;
 }

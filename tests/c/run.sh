@@ -12,8 +12,8 @@ read -r -a more <<<"${LDLIBS:-}"
 room=$(mktemp -d)
 trap 'rm -rf "$room"' EXIT
 passed=0 failed=0
-editions=(1 2)
-newest=2
+editions=(1 2 3)
+newest=3
 warnings=(-Wall -Wextra -Wpedantic -Wconversion -Wshadow -Werror)
 
 # try NAME COMMAND..: one test, which passes where the command's exit status is 0.
@@ -62,39 +62,43 @@ program() {
     "$cc" -std=c99 "${warnings[@]}" "${flags[@]}" "-Iinclude/edition-$2" -o "$1" "$3" "$lib" "${more[@]}"
 }
 
-# The old header and the new one: programs old_header-1 and old_header-2 in a folder, on the same files.
+# The old headers and the new one: the programs old_header-N, of each edition N, in a folder, on the same files.
 old_and_new() {
-    local folder=$1 editor reader
+    local folder=$1 editor reader list
     for editor in "${editions[@]}"; do
         mkdir -p "$folder/files/$editor" || return 1
         "$folder/old_header-$editor" list "$folder/files" || return 1
         "$folder/old_header-$editor" edit "$folder/files/$editor" || return 1
     done
     for editor in "${editions[@]}"; do
-        cmp "$folder/files/edition-1.list" "$folder/files/edition-$editor.list" || return 1
+        for list in "$folder/files/"*"-$editor.list"; do
+            cmp "$list" "${list%"-$editor.list"}-$newest.list" || return 1
+        done
         for reader in "${editions[@]}"; do
             "$folder/old_header-$reader" read "$folder/files/$editor" "$editor" || return 1
         done
     done
 }
 
-# One program of two parts, each compiled with another edition's header.
-two_headers() {
-    local folder=$1 edition
-    for edition in 1 2; do
+# One program of three parts, each compiled with another edition's header.
+three_headers() {
+    local folder=$1 edition parts=()
+    for edition in 1 2 3; do
         "$cc" -std=c99 "${warnings[@]}" "${flags[@]}" "-Iinclude/edition-$edition" "-DFUNCTION=kind_by_edition_$edition" -c \
-            -o "$folder/kind-$edition.o" tests/c/kind_of_info.c || return 1
+            -o "$folder/kind-$edition.o" tests/c/kind_of_first.c || return 1
+        parts+=("$folder/kind-$edition.o")
     done
-    "$cc" -std=c99 "${warnings[@]}" "${flags[@]}" -o "$folder/two_headers" tests/c/two_headers.c "$folder/kind-1.o" "$folder/kind-2.o" \
-        "$lib" "${more[@]}" && "$folder/two_headers"
+    "$cc" -std=c99 "${warnings[@]}" "${flags[@]}" -o "$folder/three_headers" tests/c/three_headers.c "${parts[@]}" "$lib" "${more[@]}" &&
+        "$folder/three_headers"
 }
 
-# The examples, with the newest header and with that of edition 1, against their stored output.
+# The examples, with the newest header and with those of editions 1 and 2, against their stored output.
 examples() {
     local folder=$1 name
     for name in list edit; do
         "$cc" -std=c99 "${warnings[@]}" "${flags[@]}" -Iinclude -o "$folder/$name" "examples/$name.c" "$lib" "${more[@]}" || return 1
         program "$folder/$name-1" 1 "examples/$name.c" || return 1
+        program "$folder/$name-2" 2 "examples/$name.c" || return 1
     done
     tests/c/examples.sh "$folder" >"$folder/examples.out" 2>&1
     diff tests/c/examples.out "$folder/examples.out"
@@ -118,7 +122,7 @@ compiles() {
 compiler() {
     cc=$1 cxx=$(plus_plus_of "$1")
     local sanitizers=(-O1 -g "-fsanitize=address,undefined" -fno-sanitize-recover=all)
-    local flavour folder edition standard name
+    local flavour folder edition other standard name
     for flavour in plain sanitized; do
         flags=(-O2)
         if [ "$flavour" = sanitized ]; then
@@ -140,7 +144,7 @@ compiler() {
             done
         done
         try "$cc, $flavour: old and new header on the same files" old_and_new "$folder"
-        try "$cc, $flavour: two headers in one program" two_headers "$folder"
+        try "$cc, $flavour: three headers in one program" three_headers "$folder"
         try "$cc, $flavour: the examples" examples "$folder"
         if command -v "$cxx" >"$room/output"; then
             for edition in "${editions[@]}"; do
@@ -171,24 +175,62 @@ typedef char newest[BOARDID_EDITION == $newest ? 1 : -1];"
         try "$cc: edition $edition is $edition" compiles "$edition" c99 "#include <boardid.h>
 typedef char itself[BOARDID_EDITION == $edition ? 1 : -1];"
     done
-    try "$cc: two editions in one file are refused" refuses compiles 0 c99 $'#include "edition-1/boardid.h"\n#include "edition-2/boardid.h"'
-    for name in BOARDID_FBOSS_X86_CPU_MAC_ADDRESSES BOARDID_FBOSS_BMC_MAC_ADDRESSES BOARDID_FBOSS_SWITCH_ASIC_MAC_ADDRESSES \
+    for edition in "${editions[@]}"; do
+        for other in "${editions[@]}"; do
+            [ "$edition" = "$other" ] || try "$cc: editions $edition and $other in one file are refused" refuses compiles 0 c99 \
+                "#include \"edition-$edition/boardid.h\"
+#include \"edition-$other/boardid.h\""
+        done
+    done
+    brought_by 2 BOARDID_FBOSS_X86_CPU_MAC_ADDRESSES BOARDID_FBOSS_BMC_MAC_ADDRESSES BOARDID_FBOSS_SWITCH_ASIC_MAC_ADDRESSES \
         BOARDID_FBOSS_META_RESERVED_MAC_ADDRESSES BOARDID_VPD_INFO BOARDID_TINY_PRODUCT_IDENTITY_BATCH \
-        BOARDID_TINY_SYSTEM_PRODUCT_IDENTITY_BATCH BOARDID_READING_IDENTITY_WITH_BATCH boardid_record_batch; do
-        try "$cc: edition 2 has $name" compiles 2 c99 $'#include <boardid.h>\nvoid use(void);\nvoid use(void) { (void)'"$name; }"
-        try "$cc: edition 1 has no $name" refuses compiles 1 c99 $'#include <boardid.h>\nvoid use(void);\nvoid use(void) { (void)'"$name; }"
+        BOARDID_TINY_SYSTEM_PRODUCT_IDENTITY_BATCH BOARDID_READING_IDENTITY_WITH_BATCH boardid_record_batch
+    brought_by 3 BOARDID_FORMAT_ONIE BOARDID_ONIE_PRODUCT_NAME BOARDID_ONIE_PART_NUMBER BOARDID_ONIE_SERIAL_NUMBER \
+        BOARDID_ONIE_BASE_MAC_ADDRESS BOARDID_ONIE_MANUFACTURE_DATE BOARDID_ONIE_MAC_ADDRESS_COUNT BOARDID_ONIE_MANUFACTURER \
+        BOARDID_ONIE_COUNTRY_CODE BOARDID_ONIE_VENDOR BOARDID_ONIE_VENDOR_EXTENSION
+}
+
+# brought_by EDITION NAME..: the headers from an edition on have these names, and those before have none of them.
+brought_by() {
+    local since=$1 name edition
+    shift
+    for name in "$@"; do
+        for edition in "${editions[@]}"; do
+            if [ "$edition" -ge "$since" ]; then
+                try "$cc: edition $edition has $name" compiles "$edition" c99 $'#include <boardid.h>\nvoid use(void);\nvoid use(void) { (void)'"$name; }"
+            else
+                try "$cc: edition $edition has no $name" refuses compiles "$edition" c99 $'#include <boardid.h>\nvoid use(void);\nvoid use(void) { (void)'"$name; }"
+            fi
+        done
     done
 }
 
-# Every name of an edition's header is in that of the next, whatever else is.
+# names_of EDITION: the names in an edition's header, one on a line.
+names_of() {
+    grep -o -i 'boardid_[a-z0-9_]*' "include/edition-$1/boardid.h" | sort -u
+}
+
+# later_has_all_names EDITION: every name of an edition's header is in that of the next, whatever else is.
 later_has_all_names() {
     local names
-    for edition in 1 2; do
-        grep -o -i 'boardid_[a-z0-9_]*' "include/edition-$edition/boardid.h" | sort -u >"$room/names-$edition"
-    done
-    names=$(comm -23 "$room/names-1" "$room/names-2")
+    names=$(comm -23 <(names_of "$1") <(names_of $(($1 + 1))))
     echo "$names"
-    [ -z "$names" ] && [ -s "$room/names-1" ]
+    [ -z "$names" ] && [ -n "$(names_of "$1")" ]
+}
+
+# The headers are what include/make-headers makes; in a copy where one was edited, and in one whose source has a mistake, it says so and fails.
+made_headers() {
+    local copy=$room/headers edition
+    include/make-headers --check || return 1
+    for edition in "${editions[@]}"; do
+        rm -rf "$copy" && cp -r include "$copy" || return 1
+        sed -i 's/A part of an image/A piece of an image/' "$copy/edition-$edition/boardid.h"
+        ! "$copy/make-headers" --check >"$room/made" 2>&1 || return 1
+        grep -q "^include/edition-$edition/boardid.h is not what" "$room/made" && grep -q '^-.*A piece of an image' "$room/made" || return 1
+        "$copy/make-headers" && diff -r include "$copy" || return 1
+    done
+    sed -i '0,/^@end$/s//@edn/' "$copy/boardid.h.in"
+    ! "$copy/make-headers" && diff -r -x boardid.h.in include "$copy"
 }
 
 # The eight exported calls, and no other, are declared in a header and defined in the library.
@@ -207,20 +249,23 @@ install_here() {
     env -u MAKEFLAGS -u MAKEOVERRIDES -u DESTDIR -u INCLUDEDIR -u LIBDIR -u DOCDIR make -s install "LIB=$lib" "$@"
 }
 
-# What make installs is enough to build an example with the newest header, and with an older one.
+# What make installs is enough to build an example with the newest header, and with that of each edition.
 installed() {
-    local prefix=$room/prefix flags
+    local prefix=$room/prefix flags edition
     install_here "PREFIX=$prefix" || return 1
     cmp "$prefix/include/boardid.h" "include/edition-$newest/boardid.h" || return 1
     export PKG_CONFIG_PATH=$prefix/lib/pkgconfig
     pkg-config --atleast-version="$newest" boardid || return 1
     read -r -a flags <<<"$(pkg-config --cflags --libs boardid)"
     (cd "$room" && "$cc" -std=c99 -o list-installed "$root/examples/list.c" "${flags[@]}" "${more[@]}") || return 1
-    "$room/list-installed" vpd samples/sku.vpd | grep -q 'edition 2, 1 entry' || return 1
-    (cd "$room" && "$cc" -std=c99 "-I$(pkg-config --variable=edition_1 boardid)" -o list-installed-1 "$root/examples/list.c" "${flags[@]}" "${more[@]}") || return 1
-    "$room/list-installed-1" vpd samples/sku.vpd | grep -q 'edition 1, 1 entry' || return 1
-    printf '#include <boardid/edition-1/boardid.h>\ntypedef char one[BOARDID_EDITION == 1 ? 1 : -1];\n' >"$room/by_path.c"
-    "$cc" -std=c99 "-I$prefix/include" -fsyntax-only "$room/by_path.c"
+    "$room/list-installed" vpd samples/sku.vpd | grep -q "edition $newest, 1 entry" || return 1
+    for edition in "${editions[@]}"; do
+        cmp "$prefix/include/boardid/edition-$edition/boardid.h" "include/edition-$edition/boardid.h" || return 1
+        (cd "$room" && "$cc" -std=c99 "-I$(pkg-config --variable="edition_$edition" boardid)" -o list-installed "$root/examples/list.c" "${flags[@]}" "${more[@]}") || return 1
+        "$room/list-installed" vpd samples/sku.vpd | grep -q "edition $edition, 1 entry" || return 1
+        printf '#include <boardid/edition-%s/boardid.h>\ntypedef char itself[BOARDID_EDITION == %s ? 1 : -1];\n' "$edition" "$edition" >"$room/by_path.c"
+        "$cc" -std=c99 "-I$prefix/include" -fsyntax-only "$room/by_path.c" || return 1
+    done
 }
 
 # The files go below DESTDIR, and boardid.pc names the folders without it.
@@ -231,10 +276,15 @@ staged() {
         grep -q '^prefix=/opt/board$' "$room/staged/opt/board/lib/pkgconfig/boardid.pc"
 }
 
-# The worked example of docs/C-INTERFACE.md: its program, and the output that stands there.
+# block KIND N: block N, counted from 1, of the blocks of a kind in docs/C-INTERFACE.md.
+block() {
+    awk -v start="\`\`\`$1" -v wanted="$2" '$0 == start { take = ++blocks == wanted; next } /^```$/ { take = 0 } take' docs/C-INTERFACE.md
+}
+
+# A worked example of docs/C-INTERFACE.md: its program, and the output that stands there.
 worked_example() {
-    awk '/^```c$/ { take = 1; next } /^```$/ { if (take) exit } take' docs/C-INTERFACE.md >"$room/worked.c"
-    awk '/^```text$/ { take = 1; next } /^```$/ { if (take) exit } take' docs/C-INTERFACE.md >"$room/worked.out"
+    block c "$1" >"$room/worked.c"
+    block text "$1" >"$room/worked.out"
     [ -s "$room/worked.c" ] && [ -s "$room/worked.out" ] || return 1
     "$cc" -std=c99 "${warnings[@]}" -Iinclude -o "$room/worked" "$room/worked.c" "$lib" "${more[@]}" || return 1
     "$room/worked" | diff "$room/worked.out" -
@@ -257,8 +307,9 @@ if [ "${#found[@]}" -eq 0 ]; then
     exit
 fi
 cc=${found[0]} flags=(-O2)
-try 'edition 2 has every name of edition 1' later_has_all_names
+try 'the headers are what include/make-headers makes' made_headers
 for edition in "${editions[@]}"; do
+    [ "$edition" = "$newest" ] || try "edition $((edition + 1)) has every name of edition $edition" later_has_all_names "$edition"
     try "edition $edition: the exported calls" exported_calls "$edition"
 done
 if command -v pkg-config >"$room/output"; then
@@ -267,5 +318,7 @@ else
     echo 'left out: there is no pkg-config'
 fi
 try 'make install with DESTDIR' staged
-try 'the worked example of docs/C-INTERFACE.md' worked_example
+for example in 1 2; do
+    try "worked example $example of docs/C-INTERFACE.md" worked_example "$example"
+done
 finish
