@@ -13,7 +13,8 @@
  *   2     the edition, by number in EDITIONS
  *   3     n, or by number in NUMBERS from F0h on
  *   4     bits 0 to 2: how much memory is lent, by number in `room_of`; bit 3: the image is given
- *         right checks first; bits 4 to 7: how many bytes of a walk are cut off
+ *         right checks first, and of ONIE the right length; bits 4 to 7: how many bytes of a walk
+ *         are cut off
  *   5, 6  the length of the second part, low byte first
  *
  * The first part is the image, or the fields of a write. The second part is the new value of an
@@ -53,8 +54,9 @@ enum { CHECK, LIST, ENTRY, VALUE, STRING, STEP, WRITE, EDIT };
 #define FIELD 20u
 #define WALK 16u
 
-static const uint32_t FORMATS[8] = {1, 2, 3, 0, 4, 257, 259, UINT32_MAX};
-static const uint32_t EDITIONS[8] = {1, 2, 0, 3, 4, 257, 258, UINT32_MAX};
+static const uint32_t FORMATS[8] = {1, 2, 3, 0, 4, 257, 260, UINT32_MAX};
+static const uint32_t EDITIONS[8] = {1, 2, 0, 3, 4, 257, 259, UINT32_MAX};
+#define NEWEST 3u
 static const uint64_t NUMBERS[16] = {
     0xF0, 0xFF, 0x100, 0x101, 0x7FFF, 0xFFFF, 0x10000, 0x7FFFFFFF,
     0x80000000, 0xFFFFFFFF, 0x100000000, 0x100000001, 1ull << 58, 1ull << 63, UINT64_MAX - 1,
@@ -261,13 +263,19 @@ static void hold_alike(const uint8_t *image, const uint8_t *records, const uint8
     }
 }
 
-/* An image that is accepted: its list, entry by entry, and the other edition's. */
+/* Where the entries of a format begin, and the first edition that has it. */
+static uint64_t header_of(uint32_t format) {
+    return format == 1 ? 4 : format == 2 ? 0 : format == 3 ? 3 : 11;
+}
+static uint32_t first_edition(uint32_t format) { return format == 4 ? 3 : 1; }
+
+/* An image that is accepted: its list, entry by entry, and those of the older editions. */
 static void hold_image(const struct request *r) {
     uint64_t entries, others;
     uint8_t *records = listed(r->format, r->edition, r->first, r->first_len, &entries);
     if (records == NULL) return;
     /* The entries begin after the header and lie without gaps. */
-    uint64_t end = r->format == 1 ? 4 : r->format == 2 ? 0 : 3;
+    uint64_t end = header_of(r->format);
     for (uint64_t i = 0; i < entries; i++) {
         const uint8_t *record = records + i * RECORD;
         HOLDS(word(record, 2) == end && word(record, 3) > word(record, 2));
@@ -287,10 +295,16 @@ static void hold_image(const struct request *r) {
         }
     }
     HOLDS(refusal(boardid_value(r->format, r->edition, r->first, r->first_len, entries)) == 13);
-    if (r->edition == 2) {
-        uint8_t *older = listed(r->format, 1, r->first, r->first_len, &others);
+    if (r->format == 4) {
+        /* The end and its check, and the declared length ends with them. */
+        HOLDS(end + 6 == 11 + ((uint64_t)r->first[9] << 8 | r->first[10]) && end + 6 <= 2059);
+    }
+    for (uint32_t e = first_edition(r->format); e < r->edition; e++) {
+        uint8_t *older = listed(r->format, e, r->first, r->first_len, &others);
         HOLDS(older != NULL && others == entries);
         hold_alike(r->first, records, r->first, older, entries, UINT64_MAX);
+        /* Edition 3 names nothing new in the formats that edition 2 has. */
+        if (e == 2) HOLDS(same(records, older, entries * RECORD));
         free(older);
     }
     free(records);
@@ -338,9 +352,11 @@ static void hold_edit(const struct request *r, const uint8_t *out, size_t out_le
     const uint8_t *record = records + r->n * RECORD;
     HOLDS(word(record, 6) == r->other_len);
     HOLDS(same(out + word(record, 5), r->other, r->other_len));
-    /* What edition 2 accepted, it still accepts. */
-    if (refusal(boardid_check(r->format, 2, r->first, r->first_len)) == 0) {
-        HOLDS(refusal(boardid_check(r->format, 2, out, len)) == 0);
+    /* What an edition accepted, it still accepts. */
+    for (uint32_t e = first_edition(r->format); e <= NEWEST; e++) {
+        if (refusal(boardid_check(r->format, e, r->first, r->first_len)) == 0) {
+            HOLDS(refusal(boardid_check(r->format, e, out, len)) == 0);
+        }
     }
     free(records);
     free(old);
@@ -360,7 +376,7 @@ static size_t room_of(unsigned mode, size_t enough) {
     }
 }
 
-/* Gives an image right checks, so that more than the check is reached. */
+/* Gives an image right checks, and of ONIE the right length, so that more than those is reached. */
 static void seal(uint32_t format, uint8_t *image, size_t len) {
     if (format == 1) {
         size_t at = 4;
@@ -382,6 +398,19 @@ static void seal(uint32_t format, uint8_t *image, size_t len) {
             for (int bit = 0; bit < 8; bit++) check = (uint8_t)(check << 1 ^ (check >> 7) * 0x07);
         }
         image[image[2] - 1] = check;
+    } else if (format == 4) {
+        size_t at = 11;
+        while (at + 6 <= len && image[at] != 0xFE) at += 2 + (size_t)image[at + 1];
+        if (at + 6 > len) return;
+        image[9] = (uint8_t)((at - 5) >> 8);
+        image[10] = (uint8_t)(at - 5);
+        uint32_t check = UINT32_MAX;
+        for (size_t i = 0; i < at + 2; i++) {
+            check ^= image[i];
+            for (int bit = 0; bit < 8; bit++) check = check >> 1 ^ (check & 1) * 0xEDB88320u;
+        }
+        check = ~check;
+        for (int i = 0; i < 4; i++) image[at + 2 + i] = (uint8_t)(check >> (24 - 8 * i));
     }
 }
 

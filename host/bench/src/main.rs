@@ -14,13 +14,12 @@ use std::time::{Duration, Instant};
 use subjects::{Board, Subject};
 
 const RECORD: usize = 64;
-const EDITION: u32 = 2;
 
 /// The name of the call that an image without fields has no row of.
 const WRITE: &str = "write";
 
-/// A call on one board, into memory that is lent for it: the answer.
-type Call = fn(u32, &Board, &mut [u8]) -> u64;
+/// A call with format and edition on one board, into memory that is lent for it: the answer.
+type Call = fn(u32, u32, &Board, &mut [u8]) -> u64;
 
 /// A row's call: its name, how much memory it is lent, and how library and second reader make it.
 struct Timed {
@@ -35,40 +34,42 @@ const CALLS: [Timed; 5] = [
     Timed {
         name: "check",
         room: |_| 0,
-        library: |format, board, _| {
+        library: |format, edition, board, _| {
             let image = &board.image;
-            unsafe { exports::boardid_check(format, EDITION, image.as_ptr(), image.len()) }
+            unsafe { exports::boardid_check(format, edition, image.as_ptr(), image.len()) }
         },
-        second: |format, board, _| second::bytes::check(format, EDITION, &board.image),
+        second: |format, edition, board, _| second::bytes::check(format, edition, &board.image),
     },
     Timed {
         name: "list",
         room: |board| board.entries * RECORD,
-        library: |format, board, out| {
+        library: |format, edition, board, out| {
             let image = &board.image;
             let (image, length) = (image.as_ptr(), image.len());
             let (out, room) = (out.as_mut_ptr(), out.len());
-            unsafe { exports::boardid_list(format, EDITION, image, length, out, room) }
+            unsafe { exports::boardid_list(format, edition, image, length, out, room) }
         },
-        second: |format, board, out| second::bytes::list(format, EDITION, &board.image, out),
+        second: |format, edition, board, out| {
+            second::bytes::list(format, edition, &board.image, out)
+        },
     },
     Timed {
         name: "entry in the middle",
         room: |_| RECORD,
-        library: |format, board, out| {
+        library: |format, edition, board, out| {
             let (image, length) = (board.image.as_ptr(), board.image.len());
             let (out, room) = (out.as_mut_ptr(), out.len());
             let n = board.middle;
-            unsafe { exports::boardid_entry(format, EDITION, image, length, n, out, room) }
+            unsafe { exports::boardid_entry(format, edition, image, length, n, out, room) }
         },
-        second: |format, board, out| {
-            second::bytes::entry(format, EDITION, &board.image, board.middle, out)
+        second: |format, edition, board, out| {
+            second::bytes::entry(format, edition, &board.image, board.middle, out)
         },
     },
     Timed {
         name: "edit",
         room: |board| board.image.len(),
-        library: |format, board, out| {
+        library: |format, edition, board, out| {
             let (image, length) = (board.image.as_ptr(), board.image.len());
             let (value, value_length) = (board.value.as_ptr(), board.value.len());
             let (out, room) = (out.as_mut_ptr(), out.len());
@@ -76,7 +77,7 @@ const CALLS: [Timed; 5] = [
             unsafe {
                 exports::boardid_edit(
                     format,
-                    EDITION,
+                    edition,
                     image,
                     length,
                     n,
@@ -87,22 +88,22 @@ const CALLS: [Timed; 5] = [
                 )
             }
         },
-        second: |format, board, out| {
+        second: |format, edition, board, out| {
             let (image, value) = (&board.image, &board.value);
-            second::bytes::edit(format, EDITION, image, board.middle, value, out)
+            second::bytes::edit(format, edition, image, board.middle, value, out)
         },
     },
     Timed {
         name: WRITE,
         room: |board| board.image.len(),
-        library: |format, board, out| {
+        library: |format, edition, board, out| {
             let (fields, fields_length) = (board.fields.as_ptr(), board.fields.len());
             let (values, values_length) = (board.values.as_ptr(), board.values.len());
             let (out, room) = (out.as_mut_ptr(), out.len());
             unsafe {
                 exports::boardid_write(
                     format,
-                    EDITION,
+                    edition,
                     fields,
                     fields_length,
                     values,
@@ -112,8 +113,8 @@ const CALLS: [Timed; 5] = [
                 )
             }
         },
-        second: |format, board, out| {
-            second::bytes::write(format, EDITION, &board.fields, &board.values, out)
+        second: |format, edition, board, out| {
+            second::bytes::write(format, edition, &board.fields, &board.values, out)
         },
     },
 ];
@@ -163,22 +164,22 @@ fn main() -> ExitCode {
 /// The median times of a row, library and second reader, in seconds. Nothing where the two give
 /// different answers or leave different memory, or a call is refused.
 fn row(subject: &Subject, timed: &Timed, limit: Duration) -> Option<(f64, f64)> {
-    let format = subject.format.number();
+    let (format, edition) = (subject.format.number(), subject.edition());
     let rooms = || -> Vec<Vec<u8>> {
         let boards = subject.boards.iter();
         boards.map(|board| vec![0; (timed.room)(board)]).collect()
     };
     let (mut of_library, mut of_second) = (rooms(), rooms());
     for (board, (a, b)) in (subject.boards.iter()).zip(of_library.iter_mut().zip(&mut of_second)) {
-        let answer = (timed.library)(format, board, a);
-        if answer >> 59 != 0 || answer != (timed.second)(format, board, b) || a != b {
+        let answer = (timed.library)(format, edition, board, a);
+        if answer >> 59 != 0 || answer != (timed.second)(format, edition, board, b) || a != b {
             return None;
         }
     }
 
     let once = |call: Call, rooms: &mut [Vec<u8>]| {
         for (board, room) in subject.boards.iter().zip(rooms) {
-            black_box(call(format, black_box(board), black_box(room)));
+            black_box(call(format, edition, black_box(board), black_box(room)));
         }
     };
     let mut library = Series::new(|| once(timed.library, &mut of_library));

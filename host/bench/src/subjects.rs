@@ -3,7 +3,8 @@
 use images::fboss;
 use images::fields::List;
 use images::generate::{kept, named};
-use images::image::{Entry, Format, Image, LONGEST};
+use images::image::{Entry, Format, Image, LONGEST, ONIE_LONGEST};
+use images::onie::EXTENSION;
 use images::random::Random;
 use images::vpd::{self, Rule};
 
@@ -27,6 +28,14 @@ pub struct Subject {
 }
 
 impl Subject {
+    /// The first edition that names everything that the format has names for.
+    pub fn edition(&self) -> u32 {
+        match self.format {
+            Format::Fboss | Format::Vpd | Format::Tiny => 2,
+            Format::Onie => 3,
+        }
+    }
+
     /// How many entries there are in all.
     pub fn entries(&self) -> usize {
         self.boards.iter().map(|board| board.entries).sum()
@@ -76,6 +85,8 @@ pub fn all() -> Vec<Subject> {
             Format::Vpd,
             vec![most_keys(&mut random)],
         ),
+        subject("ONIE, 300 bytes", Format::Onie, vec![switch()]),
+        subject("ONIE, 2,059 bytes", Format::Onie, vec![full_onie()]),
     ]
 }
 
@@ -211,5 +222,62 @@ fn most_keys(random: &mut Random) -> Board {
         fields: Vec::new(),
         values: Vec::new(),
         ..board(Format::Vpd, entries, LONGEST, value)
+    }
+}
+
+/// The ONIE image of a switch, with 003's vendor extension and another that brings it to 300 bytes.
+/// Three of its entries, device version, platform name and ONIE version, are unnamed, so the write is
+/// of the others.
+fn switch() -> Board {
+    let calibration = b"\x00\x00\x1F\x79\x00\x08DQ000MPW\x00\x09\x00\x00\x00\x00\x00\x00\x00\x00\x00\x02\x60\x51\x4B";
+    let values: [(u8, &[u8]); 13] = [
+        (0x21, b"Czechlight BiDi Amplifier"),
+        (0x22, b"sdn-bidi-cplusl-1572-g2"),
+        (0x23, b"0123456789"),
+        (0x24, b"\x00\x11\x22\xAA\xBB\xCC"),
+        (0x2A, b"\x00\x03"),
+        (0x25, b"06/15/2023 12:34:56"),
+        (0x28, b"arm-clearfog-r1"),
+        (0x2B, b"Manufacturer"),
+        (0x26, b"\x02"),
+        (0x29, b"2019.05"),
+        (0x2C, b"CZ"),
+        (0x2D, b"CESNET"),
+        (EXTENSION, calibration),
+    ];
+    let mut entries: Vec<Entry> = values
+        .into_iter()
+        .map(|(code, value)| Entry::new(code, value.to_vec()))
+        .collect();
+    let before = Image::new(Format::Onie, entries.clone()).bytes().len();
+    entries.push(Entry::new(EXTENSION, vec![0xEE; 300 - before - 2]));
+
+    let named = named(Format::Onie, 3);
+    let mut list = List::default();
+    for entry in entries.iter().filter(|entry| named.contains(&entry.code)) {
+        list.add(entry.code.into(), &[], &entry.value);
+    }
+    Board {
+        fields: list.bytes(),
+        values: list.values,
+        ..board(Format::Onie, entries, 0, b"Other makers".to_vec())
+    }
+}
+
+/// An ONIE image of the longest size with as many entries as there can be, of two bytes each, and an
+/// empty serial number in the middle, which the edit leaves empty. Its unnamed entries can't be
+/// written, so the write is of the most fields that fit: 340 vendor extensions and an empty name.
+fn full_onie() -> Board {
+    let mut entries = vec![Entry::new(0x30, vec![]); 1_020];
+    entries.insert(510, Entry::new(0x23, vec![]));
+    let mut list = List::default();
+    for _ in 0..340 {
+        list.add(EXTENSION.into(), &[], b"\x00\x00\x1F\x79");
+    }
+    list.add(0x21, &[], &[]);
+    Board {
+        fields: list.bytes(),
+        values: list.values,
+        ..board(Format::Onie, entries, ONIE_LONGEST, Vec::new())
     }
 }

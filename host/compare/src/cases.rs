@@ -4,6 +4,7 @@
 //! each other. In a sweep the two are held to each other.
 
 mod decisions;
+mod onie;
 mod scope;
 mod sources;
 mod sweeps;
@@ -15,7 +16,7 @@ use crate::comparison::{Comparison, RECORD};
 pub type Group = fn(&mut Comparison);
 
 /// All fixed cases, in groups that can be compared side by side.
-pub const GROUPS: [(&str, Group); 22] = [
+pub const GROUPS: [(&str, Group); 32] = [
     (
         "01, Both sides of each line",
         scope::both_sides_of_each_line,
@@ -33,11 +34,21 @@ pub const GROUPS: [(&str, Group); 22] = [
     ("02, VPD names with dots: written", vpd_names::written),
     ("every byte of a VPD key", vpd_names::every_key_byte),
     ("numbers of VPD keys", vpd_names::numbers_of_keys),
+    ("02, ONIE images: known", onie::known),
+    ("02, ONIE images: read", onie::read),
+    ("02, ONIE images: header", onie::header),
+    ("02, ONIE images: frames", onie::frames),
+    ("02, ONIE images: rules", onie::rules),
+    ("02, ONIE images: written", onie::written),
+    ("02, ONIE images: edited", onie::edited),
+    ("every declared length of ONIE", onie::declared_lengths),
+    ("editions 2 and 3 alike", sweeps::editions_alike),
     ("every format and edition", sweeps::every_format_and_edition),
     ("every length", sweeps::every_length),
     ("every byte of an FBOSS image", sweeps::fboss_bytes),
     ("every byte of a VPD image", sweeps::vpd_bytes),
     ("every byte of a Tiny image", sweeps::tiny_bytes),
+    ("every byte of an ONIE image", sweeps::onie_bytes),
     ("every place of long parts", sweeps::places_of_long_parts),
     ("values of edits", sweeps::values_of_edits),
     ("codes of fields", sweeps::codes_of_fields),
@@ -46,6 +57,10 @@ pub const GROUPS: [(&str, Group); 22] = [
 const FBOSS: u32 = 1;
 const VPD: u32 = 2;
 const TINY: u32 = 3;
+const ONIE: u32 = 4;
+
+/// The editions that there are. All of them have FBOSS, VPD and Tiny, and the last has ONIE.
+const EDITIONS: [u32; 3] = [1, 2, 3];
 
 fn refused(number: u64, place: u64) -> u64 {
     number << 59 | place
@@ -73,9 +88,9 @@ fn record(words: &[u32]) -> Vec<u8> {
     bytes
 }
 
-/// The check of an image in both editions.
+/// The check of an image of FBOSS, VPD or Tiny in all editions.
 fn checked(compare: &mut Comparison, format: u32, image: &str, answer: u64) {
-    for edition in [1, 2] {
+    for edition in EDITIONS {
         checked_in(compare, format, edition, image, answer);
     }
 }

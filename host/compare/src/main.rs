@@ -64,7 +64,7 @@ fn main() -> ExitCode {
         Ok(options) => options,
         Err(wrong) => {
             eprintln!("compare: {wrong}");
-            eprintln!("usage: compare [--seed N] [--inputs N] [--format 1|2|3] [--first N] [--exact] [--threads N]");
+            eprintln!("usage: compare [--seed N] [--inputs N] [--format 1|2|3|4] [--first N] [--exact] [--threads N]");
             return ExitCode::from(2);
         }
     };
@@ -260,7 +260,7 @@ fn generated(compare: &mut Comparison, random: &mut Random, format: Format) {
             plan::on_image(compare, random, format, &image);
         }
         _ => {
-            let edition = random.pick(&[1, 2]);
+            let edition = random.pick(format.editions());
             let list = fields::list(random, format, edition);
             plan::on_fields(compare, random, format, &list.bytes(), &list.values);
         }

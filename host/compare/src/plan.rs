@@ -8,16 +8,17 @@ use crate::call::{count, refusal, walk_bytes, Call};
 use crate::comparison::{Comparison, RECORD};
 
 /// Formats and editions that are none, beside those that are.
-const FORMATS: [u32; 10] = [0, 1, 2, 3, 4, 5, 257, 258, 259, u32::MAX];
-const EDITIONS: [u32; 8] = [0, 1, 2, 3, 4, 257, 258, u32::MAX];
+const FORMATS: [u32; 11] = [0, 1, 2, 3, 4, 5, 257, 258, 259, 260, u32::MAX];
+const EDITIONS: [u32; 9] = [0, 1, 2, 3, 4, 257, 258, 259, u32::MAX];
 
 /// An image with more entries than this, or longer, is called on less often.
 const MANY: usize = 40;
 const LONG: usize = 4_096;
 
-/// Every call on one image, as both editions, with all that is at the edges of its arguments.
+/// Every call on one image, as every edition that has its format, with all that is at the edges of
+/// its arguments.
 pub fn on_image(compare: &mut Comparison, random: &mut Random, format: Format, image: &[u8]) {
-    for edition in [1, 2] {
+    for &edition in format.editions() {
         let check = Call::check(format.number(), edition, image);
         let (answer, _) = compare.call(&check);
         let entries = count(answer);
@@ -29,7 +30,7 @@ pub fn on_image(compare: &mut Comparison, random: &mut Random, format: Format, i
             on_accepted(compare, random, format, &check, entries);
         }
     }
-    with_other_arguments(compare, random, image);
+    with_other_arguments(compare, random, format, image);
 }
 
 /// Calls on an image that check refuses: each must give the same refusal.
@@ -189,10 +190,28 @@ pub fn into_outputs(compare: &mut Comparison, random: &mut Random, call: &Call) 
     }
 }
 
+/// A format and an edition, known or not, the image's own format in half.
+fn any_format_and_edition(random: &mut Random, format: Format) -> (u32, u32) {
+    let format = match random.below(12) {
+        0..=5 => format.number(),
+        6 => random.number() as u32,
+        _ => random.pick(&FORMATS),
+    };
+    let edition = match random.below(8) {
+        0 => random.number() as u32,
+        _ => random.pick(&EDITIONS),
+    };
+    (format, edition)
+}
+
 /// A call with any format and any edition, and with numbers that are no entry's.
-fn with_other_arguments(compare: &mut Comparison, random: &mut Random, image: &[u8]) {
-    let format = random.pick(&FORMATS);
-    let edition = random.pick(&EDITIONS);
+fn with_other_arguments(
+    compare: &mut Comparison,
+    random: &mut Random,
+    format: Format,
+    image: &[u8],
+) {
+    let (format, edition) = any_format_and_edition(random, format);
     let check = Call::check(format, edition, image);
     let n = number(random, 2);
     let room = record_room(random);
@@ -210,7 +229,8 @@ fn with_other_arguments(compare: &mut Comparison, random: &mut Random, image: &[
     };
 }
 
-/// Writes of one field list, as both editions, and once with any format and any edition.
+/// Writes of one field list, as every edition that has its format, and once with any format and any
+/// edition.
 pub fn on_fields(
     compare: &mut Comparison,
     random: &mut Random,
@@ -218,11 +238,11 @@ pub fn on_fields(
     fields: &[u8],
     values: &[u8],
 ) {
-    for edition in [1, 2] {
+    for &edition in format.editions() {
         let call = Call::write(format.number(), edition, fields, values, 0);
         into_outputs(compare, random, &call);
     }
-    let (format, edition) = (random.pick(&FORMATS), random.pick(&EDITIONS));
+    let (format, edition) = any_format_and_edition(random, format);
     let room = output_room(random, values.len());
     compare.call(&Call::write(format, edition, fields, values, room));
 }
@@ -230,7 +250,7 @@ pub fn on_fields(
 /// All calls on every beginning of an image.
 pub fn on_beginnings(compare: &mut Comparison, format: Format, image: &[u8]) {
     for length in 0..=image.len() {
-        for edition in [1, 2] {
+        for &edition in format.editions() {
             let check = Call::check(format.number(), edition, &image[..length]);
             compare.call(&check);
             compare.call(&check.list(40 * RECORD));

@@ -1,10 +1,13 @@
 //! Damaged images: wrong entries, wrong bytes, and bytes that are no image at all.
 
 use crate::generate::{broken, kept};
-use crate::image::{seal, Entry, Format, Image, FBOSS_END, POOL, VPD_INFO, VPD_STRING};
+use crate::image::{
+    declare_to_end, seal, Entry, Format, Image, FBOSS_END, ONIE_END, ONIE_ENTRIES, ONIE_START,
+    POOL, VPD_INFO, VPD_STRING,
+};
 use crate::random::Random;
 use crate::vpd::{self, Rule};
-use crate::{fboss, tiny};
+use crate::{fboss, onie, tiny};
 
 /// The bytes of an image with one to three things wrong, the check made right again in most.
 pub fn damaged(random: &mut Random, mut image: Image) -> Vec<u8> {
@@ -22,6 +25,9 @@ pub fn damaged(random: &mut Random, mut image: Image) -> Vec<u8> {
     let mut bytes = image.bytes();
     for _ in 0..times {
         damage_bytes(random, image.format, &mut bytes);
+    }
+    if image.format == Format::Onie && random.once_in(2) {
+        declare_to_end(&mut bytes);
     }
     if !random.once_in(4) {
         seal(image.format, &mut bytes);
@@ -78,8 +84,10 @@ fn damage_entries(random: &mut Random, image: &mut Image) {
                 Format::Fboss => random.pick(&[0, 255, FBOSS_END]),
                 Format::Vpd => random.between(0x02, 0xFD) as u8,
                 Format::Tiny => 0x00,
+                Format::Onie => random.pick(&[0x00, 0xFF, ONIE_END]),
             };
-            let length = random.pick(&[0, 1, 2, 3]);
+            // With length 4 it is an end of ONIE before the last.
+            let length = random.pick(&[0, 1, 2, 3, 4]);
             let entry = Entry::new(code, random.bytes(length));
             image.entries.insert(random.between(0, count), entry);
         }
@@ -92,6 +100,7 @@ fn damage_entries(random: &mut Random, image: &mut Image) {
                 Format::Vpd => VPD_INFO,
                 Format::Tiny if random.once_in(3) => POOL,
                 Format::Tiny => tiny::unnamed(random),
+                Format::Onie => random.pick(&[0x21, 0x26, 0x2A, onie::EXTENSION]),
             };
             image
                 .entries
@@ -134,9 +143,12 @@ fn damage_bytes(random: &mut Random, format: Format, bytes: &mut Vec<u8>) {
             let piece = bytes[start..end].to_vec();
             bytes.splice(place..place, piece);
         }
-        // The header or L.
+        // The header, with the length in it.
         10 => {
-            let header = random.below(4);
+            let header = match format {
+                Format::Onie => random.below(ONIE_ENTRIES),
+                _ => random.below(4),
+            };
             if let Some(byte) = bytes.get_mut(header) {
                 *byte = match random.below(3) {
                     0 => byte.wrapping_add(1),
@@ -152,6 +164,19 @@ fn damage_bytes(random: &mut Random, format: Format, bytes: &mut Vec<u8>) {
                 2 => length as u8,
                 _ => random.pick(&[0, 1, 2, 3, 4, 5, 254, 255]),
             }
+        }
+        11 if format == Format::Onie && length >= ONIE_ENTRIES => {
+            let old = u16::from_be_bytes([bytes[9], bytes[10]]);
+            let rest = (length - ONIE_ENTRIES) as u16;
+            let new = match random.below(6) {
+                0 => old.wrapping_sub(1),
+                1 => old.wrapping_add(1),
+                2 => rest,
+                3 => rest.wrapping_add(1),
+                4 => old.swap_bytes(),
+                _ => random.pick(&[0, 1, 2, 5, 6, 7, 2_047, 2_048, 2_049, 0xFFFF]),
+            };
+            bytes[9..11].copy_from_slice(&new.to_be_bytes());
         }
         // Length bytes whose top bits are on.
         12 => {
@@ -175,7 +200,7 @@ fn damage_bytes(random: &mut Random, format: Format, bytes: &mut Vec<u8>) {
 
 /// Bytes that are no image, or one only by their first bytes.
 pub fn noise(random: &mut Random, format: Format) -> Vec<u8> {
-    let length = random.pick(&[0, 1, 2, 3, 4, 5, 6, 10, 30, 200]);
+    let length = random.pick(&[0, 1, 2, 3, 4, 5, 6, 10, 11, 17, 30, 200]);
     let mut bytes = match random.below(3) {
         0 => random.bytes(length),
         1 => random.picks(&[0x00, 0x01, 0x02, 0x80, 0xFA, 0xFB, 0xFE, 0xFF], length),
@@ -186,9 +211,13 @@ pub fn noise(random: &mut Random, format: Format) -> Vec<u8> {
             Format::Fboss => &[0xFB, 0xFB, 0x05, 0xFF],
             Format::Vpd => &[0x01, 0x01, 0x41],
             Format::Tiny => &[0x56, 0x02, length as u8],
+            Format::Onie => &ONIE_START,
         };
         for (byte, &right) in bytes.iter_mut().zip(header) {
             *byte = right;
+        }
+        if format == Format::Onie && random.once_in(2) {
+            declare_to_end(&mut bytes);
         }
     }
     if random.once_in(2) {

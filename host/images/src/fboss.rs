@@ -100,8 +100,8 @@ fn any_length(random: &mut Random) -> usize {
     }
 }
 
-/// The entries of an image that edition 1 accepts. Edition 2 accepts it but for one in a few, which
-/// have an entry that only edition 2 names twice, or with a wrong value.
+/// The entries of an image that edition 1 accepts. Later editions accept it but for one in a few,
+/// which have an entry that edition 1 does not name twice, or with a wrong value.
 pub fn entries(random: &mut Random) -> Vec<Entry> {
     let mut codes = REQUIRED.to_vec();
     let often = random.between(1, 8);

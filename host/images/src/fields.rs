@@ -1,10 +1,10 @@
 //! Generated field lists for a write.
 
-use crate::fboss;
 use crate::generate::{broken, kept, named, offered};
 use crate::image::{Format, LONGEST, POOL, VPD_INFO, VPD_STRING};
 use crate::random::Random;
 use crate::vpd::{self, Rule};
+use crate::{fboss, onie};
 
 /// A field's five words: code, key place, key length, value place, value length.
 type Field = [u32; 5];
@@ -138,6 +138,16 @@ fn codes(random: &mut Random, format: Format, edition: u32) -> Vec<u8> {
                 .filter(|_| random.once_in(often))
                 .collect()
         }
+        Format::Onie => {
+            let often = random.between(1, 4);
+            let mut codes: Vec<u8> = named
+                .into_iter()
+                .filter(|_| random.once_in(often))
+                .collect();
+            let more = random.pick(&[0, 0, 1, 3]);
+            codes.extend(vec![onie::EXTENSION; more]);
+            codes
+        }
     }
 }
 
@@ -154,6 +164,9 @@ fn spoil(random: &mut Random, format: Format, list: &mut List) {
         0 => {
             let code = list.fields[at][CODE];
             list.fields[at][CODE] = match random.below(4) {
+                0 if format == Format::Onie => {
+                    random.pick(&[0, 0x20, 0x26, 0x2E, 0xFC, 0xFE, 0xFF])
+                }
                 0 => random.pick(&[0, 2, 17, 20, 21, 0x20, 0x80, 0x81, 249, 250, 254, 255]),
                 1 => random.pick(&[code + 256, code << 8, code | 1 << 31, u32::MAX]),
                 2 => random.number() as u32,
@@ -206,7 +219,7 @@ fn spoil(random: &mut Random, format: Format, list: &mut List) {
         }
         // A field after the pool, in Tiny.
         10 => {
-            let code = random.pick(&named(format, 2));
+            let code = random.pick(&named(format, 3));
             let value = offered(random, format, code);
             list.add(u32::from(code), b"late", &value);
         }
@@ -279,6 +292,12 @@ pub fn large(random: &mut Random, format: Format) -> List {
                 list.add(0x10, &[], &[0]);
             }
             list.add(u32::from(POOL), &[], &pool);
+        }
+        Format::Onie => {
+            let length = random.pick(&[2_047, 2_048, 2_048, 2_049, 2_050, 4_096, 65_536, 70_000]);
+            for entry in onie::fields_declaring(random, length) {
+                list.add(u32::from(entry.code), &[], &entry.value);
+            }
         }
     }
     if random.once_in(4) {

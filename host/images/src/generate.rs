@@ -1,21 +1,20 @@
 //! Generated images of every format, and values for their entries.
 
-use crate::image::{after_the_end, Entry, Format, Image, LONGEST, POOL};
+use crate::image::{after_the_end, Entry, Format, Image, LONGEST, ONIE_LONGEST, POOL};
 use crate::random::Random;
 use crate::vpd::{self, Rule};
-use crate::{fboss, tiny};
+use crate::{fboss, onie, tiny};
 
 /// The codes that an edition names.
 pub fn named(format: Format, edition: u32) -> Vec<u8> {
-    let named = match format {
-        Format::Fboss => fboss::NAMED,
-        Format::Vpd => vpd::NAMED,
-        Format::Tiny => tiny::NAMED,
+    let added: &[&[u8]] = match format {
+        Format::Fboss => &fboss::NAMED,
+        Format::Vpd => &vpd::NAMED,
+        Format::Tiny => &tiny::NAMED,
+        Format::Onie => &onie::NAMED,
     };
-    match edition {
-        1 => named[0].to_vec(),
-        _ => named.concat(),
-    }
+    let editions = added.len().min(edition as usize);
+    added[..editions].concat()
 }
 
 /// A value that keeps the rule of a code, where the code has one.
@@ -24,6 +23,7 @@ pub fn kept(random: &mut Random, format: Format, code: u8) -> Vec<u8> {
         Format::Fboss => fboss::kept(random, code),
         Format::Vpd => vpd::kept(random, code),
         Format::Tiny => tiny::kept(random, code),
+        Format::Onie => onie::kept(random, code),
     }
 }
 
@@ -33,6 +33,7 @@ pub fn broken(random: &mut Random, format: Format, code: u8) -> Vec<u8> {
         Format::Fboss => fboss::broken(random, code),
         Format::Vpd => vpd::broken(random),
         Format::Tiny => tiny::broken(random, code),
+        Format::Onie => onie::broken(random, code),
     }
 }
 
@@ -52,6 +53,7 @@ pub fn offered(random: &mut Random, format: Format, code: u8) -> Vec<u8> {
                 Format::Vpd => random.pick(&[0, 4, 126, 127, 128, 129, 1000]),
                 Format::Tiny if code == POOL => random.pick(&[0, 249, 250, 251, 255, 256, 257]),
                 Format::Tiny => random.pick(&[0, 1, 6, 8, 15, 16]),
+                Format::Onie => random.pick(&[0, 2, 3, 4, 5, 6, 19, 254, 255, 256, 257, 512]),
             };
             value = vec![b'A'; length];
         }
@@ -59,12 +61,13 @@ pub fn offered(random: &mut Random, format: Format, code: u8) -> Vec<u8> {
     value
 }
 
-/// An image that edition 1 accepts, and edition 2 too but for one in a few.
+/// An image that the first edition of its format accepts, and all others too but for one in a few.
 pub fn valid(random: &mut Random, format: Format) -> Image {
     let entries = match format {
         Format::Fboss => fboss::entries(random),
         Format::Vpd => vpd::entries(random),
         Format::Tiny => tiny::entries(random),
+        Format::Onie => onie::entries(random),
     };
     let mut image = Image::new(format, entries);
     image.vpd_end = random.pick(&[0x00, 0xFF]);
@@ -91,6 +94,18 @@ pub fn large(random: &mut Random, format: Format) -> Image {
             }
         },
         Format::Tiny => tiny::shortest(random),
+        Format::Onie => {
+            // To the longest that there can be, and one byte and some more than that.
+            let length = random.pick(&[
+                ONIE_LONGEST - 1,
+                ONIE_LONGEST,
+                ONIE_LONGEST,
+                ONIE_LONGEST + 1,
+                ONIE_LONGEST + 256,
+                length,
+            ]);
+            onie::filling(random, length, value_length.min(255))
+        }
     };
     let mut image = Image::new(format, entries);
     image.vpd_end = random.pick(&[0x00, 0xFF]);
@@ -103,8 +118,8 @@ pub fn large(random: &mut Random, format: Format) -> Image {
             }
             _ => image.after = vec![0xFF; (LONGEST + 1).saturating_sub(image.bytes().len())],
         }
-    } else if format == Format::Tiny {
-        image.after = random.bytes(LONGEST - image.bytes().len());
+    } else if format == Format::Tiny || (format == Format::Onie && random.once_in(2)) {
+        image.after = random.bytes(LONGEST.saturating_sub(image.bytes().len()));
     }
     image
 }

@@ -1,6 +1,6 @@
 //! An image as its entries, and its bytes.
 
-use crate::checks::{check16, check8};
+use crate::checks::{check16, check32, check8};
 use crate::random::Random;
 
 /// No image and no output is longer than this (01, Numbers given back).
@@ -12,6 +12,14 @@ pub const FBOSS_HEADER: [u8; 4] = [0xFB, 0xFB, 0x05, 0xFF];
 pub const FBOSS_END: u8 = 250;
 /// The tag of the Tiny strings pool.
 pub const POOL: u8 = 0x01;
+/// The first bytes of an ONIE image, without the declared length: magic and version.
+pub const ONIE_START: [u8; 9] = *b"TlvInfo\x00\x01";
+/// The place of an ONIE image's first entry, after the two bytes of the declared length.
+pub const ONIE_ENTRIES: usize = 11;
+/// The code that ends an ONIE image.
+pub const ONIE_END: u8 = 0xFE;
+/// No ONIE image is longer than this: the header, and a declared length of 2,048.
+pub const ONIE_LONGEST: usize = 2_059;
 /// The VPD type of an ordinary key and value.
 pub const VPD_STRING: u8 = 0x01;
 /// The VPD type of the info header.
@@ -22,9 +30,10 @@ pub enum Format {
     Fboss,
     Vpd,
     Tiny,
+    Onie,
 }
 
-pub const FORMATS: [Format; 3] = [Format::Fboss, Format::Vpd, Format::Tiny];
+pub const FORMATS: [Format; 4] = [Format::Fboss, Format::Vpd, Format::Tiny, Format::Onie];
 
 impl Format {
     pub fn number(self) -> u32 {
@@ -32,6 +41,15 @@ impl Format {
             Format::Fboss => 1,
             Format::Vpd => 2,
             Format::Tiny => 3,
+            Format::Onie => 4,
+        }
+    }
+
+    /// The editions that have the format.
+    pub fn editions(self) -> &'static [u32] {
+        match self {
+            Format::Fboss | Format::Vpd | Format::Tiny => &[1, 2, 3],
+            Format::Onie => &[3],
         }
     }
 }
@@ -64,7 +82,7 @@ impl Entry {
     pub fn bytes(&self, format: Format) -> Vec<u8> {
         let mut bytes = vec![self.code];
         match format {
-            Format::Fboss => bytes.push(self.value.len() as u8),
+            Format::Fboss | Format::Onie => bytes.push(self.value.len() as u8),
             Format::Vpd => {
                 bytes.extend(vpd_length(self.key.len(), self.zero_groups[0]));
                 bytes.extend(&self.key);
@@ -110,12 +128,14 @@ impl Image {
         }
     }
 
-    /// The image's bytes, with right checks and, where one byte can hold it, the right L.
+    /// The image's bytes, with right checks and, where its bytes can hold it, the right length in the
+    /// header.
     pub fn bytes(&self) -> Vec<u8> {
         let mut bytes = match self.format {
             Format::Fboss => FBOSS_HEADER.to_vec(),
             Format::Vpd => Vec::new(),
             Format::Tiny => vec![0x56, 0x02, 0x00],
+            Format::Onie => [&ONIE_START[..], &[0x00, 0x00]].concat(),
         };
         for entry in &self.entries {
             bytes.extend(entry.bytes(self.format));
@@ -131,9 +151,41 @@ impl Image {
                 bytes[2] = (bytes.len() + 1) as u8;
                 bytes.push(check8(&bytes));
             }
+            Format::Onie => {
+                bytes.extend([ONIE_END, 4]);
+                bytes.extend([0; 4]);
+                declare(&mut bytes);
+                seal(Format::Onie, &mut bytes);
+            }
         }
         bytes.extend(&self.after);
         bytes
+    }
+}
+
+/// The place of an entry, walking over codes and lengths from the first entry on.
+fn place_of(code: u8, first: usize, bytes: &[u8]) -> Option<usize> {
+    let mut place = first;
+    while place + 2 <= bytes.len() {
+        if bytes[place] == code {
+            return Some(place);
+        }
+        place += 2 + usize::from(bytes[place + 1]);
+    }
+    None
+}
+
+/// Declares the length of all that follows an ONIE header, as far as two bytes can hold it.
+fn declare(bytes: &mut [u8]) {
+    let length = (bytes.len() - ONIE_ENTRIES) as u16;
+    bytes[9..11].copy_from_slice(&length.to_be_bytes());
+}
+
+/// Declares the length up to the end of a damaged ONIE image, where it still has one.
+pub fn declare_to_end(bytes: &mut [u8]) {
+    if let Some(end) = place_of(ONIE_END, ONIE_ENTRIES, bytes) {
+        let length = (end + 6).min(bytes.len());
+        declare(&mut bytes[..length]);
     }
 }
 
@@ -141,14 +193,11 @@ impl Image {
 pub fn seal(format: Format, bytes: &mut [u8]) {
     match format {
         Format::Fboss => {
-            let mut place = FBOSS_HEADER.len();
-            while place + 4 <= bytes.len() {
-                if bytes[place] == FBOSS_END {
-                    let check = check16(&bytes[..place]).to_be_bytes();
-                    bytes[place + 2..place + 4].copy_from_slice(&check);
-                    return;
+            if let Some(end) = place_of(FBOSS_END, FBOSS_HEADER.len(), bytes) {
+                let check = check16(&bytes[..end]).to_be_bytes();
+                if let Some(stored) = bytes.get_mut(end + 2..end + 4) {
+                    stored.copy_from_slice(&check);
                 }
-                place += 2 + usize::from(bytes[place + 1]);
             }
         }
         Format::Vpd => {}
@@ -156,6 +205,14 @@ pub fn seal(format: Format, bytes: &mut [u8]) {
             let length = bytes.get(2).copied().map_or(0, usize::from);
             if (4..=bytes.len()).contains(&length) {
                 bytes[length - 1] = check8(&bytes[..length - 1]);
+            }
+        }
+        Format::Onie => {
+            if let Some(end) = place_of(ONIE_END, ONIE_ENTRIES, bytes) {
+                let check = check32(&bytes[..end + 2]).to_be_bytes();
+                if let Some(stored) = bytes.get_mut(end + 2..end + 6) {
+                    stored.copy_from_slice(&check);
+                }
             }
         }
     }

@@ -10,6 +10,7 @@ pub mod fboss;
 pub mod fields;
 pub mod generate;
 pub mod image;
+pub mod onie;
 pub mod random;
 pub mod tiny;
 pub mod vpd;

@@ -78,8 +78,8 @@ fn pool(random: &mut Random) -> Vec<u8> {
     pool
 }
 
-/// The entries of an image that edition 1 accepts. Edition 2 accepts it but for one in a few, which
-/// have an entry that only edition 2 names twice, or with a wrong value.
+/// The entries of an image that edition 1 accepts. Later editions accept it but for one in a few,
+/// which have an entry that edition 1 does not name twice, or with a wrong value.
 pub fn entries(random: &mut Random) -> Vec<Entry> {
     let often = random.between(1, 6);
     let mut codes: Vec<u8> = NAMED

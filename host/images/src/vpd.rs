@@ -144,8 +144,8 @@ pub fn broken(random: &mut Random) -> Vec<u8> {
     random.bytes(length)
 }
 
-/// The entries of an image that edition 1 accepts. Edition 2 accepts it but for one in a few, which
-/// have a second info header, or one with a wrong value.
+/// The entries of an image that edition 1 accepts. Later editions accept it but for one in a few,
+/// which have a second info header, or one with a wrong value.
 pub fn entries(random: &mut Random) -> Vec<Entry> {
     let count = random.pick(&[0, 1, 1, 2, 3, 5, 8, 13, 30]);
     // Some images have no key that a writer would refuse.

@@ -2,8 +2,8 @@
 
 use std::collections::HashSet;
 
-use crate::checks::{check16, check8};
-use crate::formats::{not_too_long, Edition, Format, VPD_STRING};
+use crate::checks::{check16, check32, check8};
+use crate::formats::{known, not_too_long, Edition, Format, VPD_STRING};
 use crate::frames::{self, Frame, Frames};
 use crate::names;
 use crate::refusal::{Reason, Refusal};
@@ -20,8 +20,7 @@ pub(crate) struct Accepted<'a> {
 
 /// Accepts an image, or says what the image's check refuses first.
 pub(crate) fn accept(format: u32, edition: u32, image: &[u8]) -> Result<Accepted<'_>, Refusal> {
-    let format = Format::from_number(format)?;
-    let edition = Edition::from_number(edition)?;
+    let (format, edition) = known(format, edition)?;
     not_too_long(image)?;
 
     let frames = frames::walk(format, image)?;
@@ -50,7 +49,8 @@ pub(crate) fn accept(format: u32, edition: u32, image: &[u8]) -> Result<Accepted
     })
 }
 
-/// Compares the stored check with the one over all bytes before the end of the entries.
+/// Compares the stored check with the right one. It runs over all bytes before the image's end, and
+/// in ONIE over the end's code and length too.
 fn compare_check(format: Format, image: &[u8], end: usize) -> Result<(), Refusal> {
     let (covered, rest) = image.split_at(end);
     let (right, stored_place) = match format {
@@ -58,6 +58,10 @@ fn compare_check(format: Format, image: &[u8], end: usize) -> Result<(), Refusal
         Format::Fboss => (rest[2..4] == check16(covered).to_be_bytes(), end + 2),
         Format::Vpd => (true, end),
         Format::Tiny => (rest[0] == check8(covered), end),
+        Format::Onie => {
+            let covered = &image[..end + 2];
+            (rest[2..6] == check32(covered).to_be_bytes(), end + 2)
+        }
     };
     if right {
         Ok(())
@@ -115,14 +119,14 @@ pub(crate) struct Present<'a> {
 }
 
 impl<'a> Present<'a> {
-    /// Adds a named entry and says whether it is the first of its code, or of its key for VPD type
-    /// 01h.
+    /// Adds a named entry and says whether it may be there: it is the first of its code, or of its
+    /// key for VPD type 01h, or its code may repeat.
     pub(crate) fn add(&mut self, format: Format, code: u8, key: &'a [u8]) -> bool {
         let key = match (format, code) {
             (Format::Vpd, VPD_STRING) => key,
             _ => &[],
         };
-        self.met.insert((code, key))
+        self.met.insert((code, key)) || names::may_repeat(format, code)
     }
 
     /// Refuses where a required field is missing.

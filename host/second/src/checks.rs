@@ -1,7 +1,8 @@
-//! The check of FBOSS, 16 bits wide, and the check of Tiny, 8 bits wide.
+//! The checks: that of FBOSS is 16 bits wide, that of Tiny 8 bits, and that of ONIE 32 bits.
 //!
-//! Both are computed one bit at a time, straight from their descriptions: high bit first, nothing
-//! reflected, no final change.
+//! All are computed one bit at a time, straight from their descriptions. Those of FBOSS and Tiny go
+//! high bit first, with nothing reflected and no final change. That of ONIE is reflected: it goes
+//! low bit first, with the polynomial's bits the other way round.
 
 /// The FBOSS check: polynomial 1021h, start 1D0Fh.
 pub(crate) fn check16(bytes: &[u8]) -> u16 {
@@ -24,6 +25,20 @@ pub(crate) fn check8(bytes: &[u8]) -> u8 {
     })
 }
 
+/// The ONIE check, the CRC-32 of IEEE 802.3: polynomial 04C11DB7h, start FFFFFFFFh, and at the end
+/// every bit changed.
+pub(crate) fn check32(bytes: &[u8]) -> u32 {
+    const REFLECTED: u32 = 0x04C1_1DB7_u32.reverse_bits();
+    let check = bytes.iter().fold(0xFFFF_FFFF, |check, &byte| {
+        let mixed = check ^ u32::from(byte);
+        (0..8).fold(mixed, |check, _| match check & 1 {
+            0 => check >> 1,
+            _ => (check >> 1) ^ REFLECTED,
+        })
+    });
+    check ^ 0xFFFF_FFFF
+}
+
 #[cfg(test)]
 mod tests {
     use super::*;
@@ -42,6 +57,30 @@ mod tests {
         assert_eq!(check8(&[0x56, 0x02, 0x04]), 0x6F);
         // The usual reference value of this polynomial with start 0.
         assert_eq!(check8(b"123456789"), 0xF4);
+    }
+
+    #[test]
+    fn the_reference_values_of_the_32_bit_check() {
+        assert_eq!(check32(b""), 0);
+        assert_eq!(check32(b"123456789"), 0xCBF4_3926);
+        assert_eq!(check32(&[0x00; 32]), 0x190A_55AD);
+        assert_eq!(check32(&[0xFF; 32]), 0xFF6C_AB0B);
+        // An ONIE image without entries, up to its end's length (02, ONIE images).
+        let image = b"TlvInfo\0\x01\x00\x06\xFE\x04";
+        assert_eq!(check32(image), 0xD443_1C18);
+        // The payload of a vendor extension (003, Examples).
+        let payload = b"\x08DQ000MPW\x00\x09\x00\x00\x00\x00\x00\x00\x00\x00\x00";
+        assert_eq!(check32(payload), 0x0260_514B);
+    }
+
+    #[test]
+    fn the_32_bit_check_stored_low_byte_first_leaves_what_it_always_leaves() {
+        let bytes: Vec<u8> = (0..=255).collect();
+        for length in 0..=256 {
+            let mut with32 = bytes[..length].to_vec();
+            with32.extend(check32(&with32).to_le_bytes());
+            assert_eq!(check32(&with32), 0x2144_DF1C);
+        }
     }
 
     #[test]

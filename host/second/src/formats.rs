@@ -30,12 +30,31 @@ pub(crate) const TINY_LENGTH_PLACE: usize = 2;
 pub(crate) const TINY_HEADER_LEN: usize = 3;
 /// The tag of the Tiny strings pool.
 pub(crate) const POOL: u8 = 0x01;
+/// No Tiny image is longer than this, because its total length is one byte.
+const TINY_LONGEST: usize = 255;
+
+/// The first bytes of an ONIE image, and the version that follows them.
+pub(crate) const ONIE_MAGIC: [u8; 8] = *b"TlvInfo\0";
+pub(crate) const ONIE_VERSION: u8 = 0x01;
+/// The place of the declared length in an ONIE image: two bytes, high byte first.
+pub(crate) const ONIE_LENGTH_PLACE: usize = 9;
+/// How many bytes an ONIE header has. The declared length counts all after them.
+pub(crate) const ONIE_HEADER_LEN: usize = 11;
+/// No declared length is above this.
+pub(crate) const ONIE_LONGEST_ROOM: usize = 2_048;
+/// The code that ends an ONIE image.
+pub(crate) const ONIE_END: u8 = 0xFE;
+/// The length that the end of an ONIE image must have.
+pub(crate) const ONIE_END_LENGTH: u8 = 4;
+/// The code of an ONIE vendor extension.
+pub(crate) const ONIE_EXTENSION: u8 = 0xFD;
 
 #[derive(Clone, Copy, Debug, PartialEq, Eq)]
 pub(crate) enum Format {
     Fboss,
     Vpd,
     Tiny,
+    Onie,
 }
 
 impl Format {
@@ -44,6 +63,7 @@ impl Format {
             1 => Ok(Format::Fboss),
             2 => Ok(Format::Vpd),
             3 => Ok(Format::Tiny),
+            4 => Ok(Format::Onie),
             _ => Err(Reason::Format.at(0)),
         }
     }
@@ -53,6 +73,15 @@ impl Format {
             Format::Fboss => 1,
             Format::Vpd => 2,
             Format::Tiny => 3,
+            Format::Onie => 4,
+        }
+    }
+
+    /// The first edition that has the format. All later ones have it too.
+    fn since(self) -> Edition {
+        match self {
+            Format::Fboss | Format::Vpd | Format::Tiny => Edition::One,
+            Format::Onie => Edition::Three,
         }
     }
 
@@ -62,6 +91,7 @@ impl Format {
             Format::Fboss => FBOSS_HEADER.len(),
             Format::Vpd => 0,
             Format::Tiny => TINY_HEADER_LEN,
+            Format::Onie => ONIE_HEADER_LEN,
         }
     }
 
@@ -74,24 +104,47 @@ impl Format {
             Format::Vpd => 1,
             // The check byte.
             Format::Tiny => 1,
+            // The code, the length and four bytes of check.
+            Format::Onie => 6,
+        }
+    }
+
+    /// How long an image of the format can be, its end included.
+    pub(crate) fn longest(self) -> usize {
+        match self {
+            Format::Fboss | Format::Vpd => LONGEST,
+            Format::Tiny => TINY_LONGEST,
+            Format::Onie => ONIE_HEADER_LEN + ONIE_LONGEST_ROOM,
         }
     }
 }
 
-#[derive(Clone, Copy, Debug, PartialEq, Eq)]
+#[derive(Clone, Copy, Debug, PartialEq, Eq, PartialOrd, Ord)]
 pub(crate) enum Edition {
     One,
     Two,
+    Three,
 }
 
 impl Edition {
-    pub(crate) fn from_number(number: u32) -> Result<Edition, Refusal> {
+    fn from_number(number: u32) -> Result<Edition, Refusal> {
         match number {
             1 => Ok(Edition::One),
             2 => Ok(Edition::Two),
+            3 => Ok(Edition::Three),
             _ => Err(Reason::Edition.at(0)),
         }
     }
+}
+
+/// The format and the edition of a call, where there are such ones and the edition has the format.
+pub(crate) fn known(format: u32, edition: u32) -> Result<(Format, Edition), Refusal> {
+    let format = Format::from_number(format)?;
+    let edition = Edition::from_number(edition)?;
+    if edition < format.since() {
+        return Err(Reason::Format.at(0));
+    }
+    Ok((format, edition))
 }
 
 /// Refuses an image or an output that is too long.

@@ -6,8 +6,9 @@
 use std::ops::Range;
 
 use crate::formats::{
-    Format, FBOSS_END, FBOSS_END_LENGTH, FBOSS_HEADER, POOL, TINY_HEADER_LEN, TINY_LENGTH_PLACE,
-    TINY_MAGIC, TINY_VERSION, VPD_END, VPD_ERASED, VPD_INFO, VPD_STRING,
+    Format, FBOSS_END, FBOSS_END_LENGTH, FBOSS_HEADER, ONIE_END, ONIE_END_LENGTH, ONIE_HEADER_LEN,
+    ONIE_LENGTH_PLACE, ONIE_LONGEST_ROOM, ONIE_MAGIC, ONIE_VERSION, POOL, TINY_HEADER_LEN,
+    TINY_LENGTH_PLACE, TINY_MAGIC, TINY_VERSION, VPD_END, VPD_ERASED, VPD_INFO, VPD_STRING,
 };
 use crate::refusal::{Reason, Refusal};
 
@@ -26,7 +27,7 @@ pub(crate) struct Frame {
 #[derive(Clone, Debug, PartialEq, Eq)]
 pub(crate) struct Frames {
     pub(crate) frames: Vec<Frame>,
-    /// The place after the last entry. A check runs over all bytes before it.
+    /// The place after the last entry, where the image's end begins.
     pub(crate) end: usize,
 }
 
@@ -36,6 +37,7 @@ pub(crate) fn walk(format: Format, image: &[u8]) -> Result<Frames, Refusal> {
         Format::Fboss => walk_fboss(image),
         Format::Vpd => walk_vpd(image),
         Format::Tiny => walk_tiny(image),
+        Format::Onie => walk_onie(image),
     }
 }
 
@@ -53,7 +55,39 @@ fn walk_fboss(image: &[u8]) -> Result<Frames, Refusal> {
         return Err(Reason::Header.at(0));
     }
 
-    let mut reader = Reader::new(image, FBOSS_HEADER.len());
+    let reader = Reader::new(image, FBOSS_HEADER.len());
+    walk_to_end(reader, FBOSS_END, FBOSS_END_LENGTH)
+}
+
+fn walk_onie(image: &[u8]) -> Result<Frames, Refusal> {
+    let Some((header, _)) = image.split_first_chunk::<ONIE_HEADER_LEN>() else {
+        return Err(Reason::Header.at(0));
+    };
+    let &[ref magic @ .., version, high, low] = header;
+    if *magic != ONIE_MAGIC {
+        return Err(Reason::Header.at(0));
+    }
+    if version != ONIE_VERSION {
+        return Err(Reason::Version.at(0));
+    }
+    let bad_length = Reason::PastRoom.at(ONIE_LENGTH_PLACE);
+    let declared = usize::from(u16::from_be_bytes([high, low]));
+    if declared > ONIE_LONGEST_ROOM {
+        return Err(bad_length);
+    }
+    let room = image.get(..ONIE_HEADER_LEN + declared).ok_or(bad_length)?;
+
+    let reader = Reader::new(room, ONIE_HEADER_LEN);
+    let frames = walk_to_end(reader, ONIE_END, ONIE_END_LENGTH)?;
+    if frames.end + Format::Onie.end_len() < room.len() {
+        return Err(bad_length);
+    }
+    Ok(frames)
+}
+
+/// Walks over entries of one code byte, one length byte and the value, to the entry whose code ends
+/// the image. Codes 00h and FFh are forbidden, and the end has just one length.
+fn walk_to_end(mut reader: Reader, end: u8, end_length: u8) -> Result<Frames, Refusal> {
     let mut frames = Vec::new();
     loop {
         let place = reader.at;
@@ -61,15 +95,15 @@ fn walk_fboss(image: &[u8]) -> Result<Frames, Refusal> {
         let forbidden = Reason::Forbidden.at(place);
 
         let code = reader.byte().ok_or(past_room)?;
-        if code == 0 || code == 255 {
+        if code == 0x00 || code == 0xFF {
             return Err(forbidden);
         }
         let length = reader.byte().ok_or(past_room)?;
-        if code == FBOSS_END && length != FBOSS_END_LENGTH {
+        if code == end && length != end_length {
             return Err(forbidden);
         }
         let value = reader.part(usize::from(length)).ok_or(past_room)?;
-        if code == FBOSS_END {
+        if code == end {
             return Ok(Frames { frames, end: place });
         }
         frames.push(without_key(code, place, value));

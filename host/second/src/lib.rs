@@ -1,9 +1,9 @@
 //! A second, independent implementation of the board-identity library.
 //!
-//! It reads, writes and edits images of three layouts: FBOSS v5 (format 1), VPD 2.0 (format 2) and
-//! Tiny EEPROM version 2 (format 3). It is written from the scope document (01) and the change
-//! requests (02, item 1) alone, so that its answers can be compared with those of the library
-//! proper. Clarity comes before speed here.
+//! It reads, writes and edits images of four layouts: FBOSS v5 (format 1), VPD 2.0 (format 2), Tiny
+//! EEPROM version 2 (format 3) and ONIE (format 4). It is written from the scope document (01) and
+//! the change requests (02, items 1 and 3) alone, so that its answers can be compared with those of
+//! the library proper. Clarity comes before speed here.
 //!
 //! No call panics, whatever it is given, and a refused call leaves lent memory as it was.
 

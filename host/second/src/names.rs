@@ -1,6 +1,6 @@
 //! What the editions name, the rules of named entries and their readings.
 
-use crate::formats::{Edition, Format, POOL, VPD_INFO, VPD_STRING};
+use crate::formats::{Edition, Format, ONIE_EXTENSION, POOL, VPD_INFO, VPD_STRING};
 use crate::{Identity, Reading};
 
 /// Whether an edition names a code.
@@ -9,16 +9,21 @@ pub(crate) fn is_named(format: Format, edition: Edition, code: u8) -> bool {
         Format::Fboss => matches!(code, 1..=16),
         Format::Vpd => code == VPD_STRING,
         Format::Tiny => matches!(code, 0x01 | 0x10 | 0x11 | 0x60 | 0x61 | 0x62),
+        Format::Onie => false,
     };
     let since_edition_two = match format {
         Format::Fboss => matches!(code, 17..=20),
         Format::Vpd => code == VPD_INFO,
         Format::Tiny => matches!(code, 0x80 | 0x81),
+        Format::Onie => false,
     };
-    match edition {
-        Edition::One => since_edition_one,
-        Edition::Two => since_edition_one || since_edition_two,
-    }
+    let since_edition_three = match format {
+        Format::Fboss | Format::Vpd | Format::Tiny => false,
+        Format::Onie => matches!(code, 0x21..=0x25 | 0x2A..=0x2D | ONIE_EXTENSION),
+    };
+    since_edition_one
+        || (since_edition_two && edition >= Edition::Two)
+        || (since_edition_three && edition >= Edition::Three)
 }
 
 /// The kind of an entry that an edition names.
@@ -30,8 +35,13 @@ pub(crate) fn kind(format: Format, code: u8) -> u32 {
 pub(crate) fn required(format: Format) -> &'static [u8] {
     match format {
         Format::Fboss => &[1, 8, 9, 10, 11],
-        Format::Vpd | Format::Tiny => &[],
+        Format::Vpd | Format::Tiny | Format::Onie => &[],
     }
+}
+
+/// Whether a named code may come more than once.
+pub(crate) fn may_repeat(format: Format, code: u8) -> bool {
+    (format, code) == (Format::Onie, ONIE_EXTENSION)
 }
 
 /// Whether a named entry keeps the rule of its code, as a reader has it.
@@ -61,6 +71,13 @@ pub(crate) fn keeps_rule(format: Format, code: u8, key: &[u8], value: &[u8]) -> 
             _ => false,
         },
         (Format::Tiny, _) => value.len() == usize::from(code >> 4),
+
+        (Format::Onie, 0x24) => value.len() == 6,
+        (Format::Onie, 0x25) => is_date_with_time(value),
+        (Format::Onie, 0x2A) => value.len() == 2,
+        (Format::Onie, 0x2C) => value.len() == 2 && value.iter().all(u8::is_ascii_uppercase),
+        (Format::Onie, ONIE_EXTENSION) => (4..=255).contains(&value.len()),
+        (Format::Onie, _) => value.len() <= 255 && is_text(value),
     }
 }
 
@@ -92,6 +109,16 @@ fn is_date(value: &[u8]) -> bool {
         }
         _ => false,
     }
+}
+
+/// Nineteen bytes MM/DD/YYYY HH:NN:SS, with any digits.
+fn is_date_with_time(value: &[u8]) -> bool {
+    let pattern = b"00/00/0000 00:00:00";
+    let fits = |(byte, &wanted): (&u8, &u8)| match wanted {
+        b'0' => byte.is_ascii_digit(),
+        mark => *byte == mark,
+    };
+    value.len() == pattern.len() && value.iter().zip(pattern).all(fits)
 }
 
 /// The major part is 00 to 99, or 0A to 0Z with the top bit on. The minor part is 00 to 99.
@@ -142,6 +169,16 @@ pub(crate) fn reading(format: Format, code: u8, value: &[u8]) -> Reading {
             Reading::IdentityWithBatch(identity, u32::from(u16::from_le_bytes([low, high])))
         }
         (Format::Tiny, _, _) => Reading::Plain,
+
+        (Format::Onie, 0x24, &[b0, b1, b2, b3, b4, b5]) => Reading::Addresses {
+            base: address([b0, b1, b2, b3, b4, b5]),
+            count: 1,
+        },
+        (Format::Onie, 0x2A, &[high, low]) => {
+            Reading::Number(u32::from(u16::from_be_bytes([high, low])))
+        }
+        (Format::Onie, ONIE_EXTENSION, _) => Reading::Plain,
+        (Format::Onie, _, _) => Reading::Text,
     }
 }
 
@@ -181,6 +218,23 @@ mod tests {
             named(Format::Tiny, Edition::Two),
             [0x01, 0x10, 0x11, 0x60, 0x61, 0x62, 0x80, 0x81]
         );
+        for format in [Format::Fboss, Format::Vpd, Format::Tiny] {
+            assert_eq!(named(format, Edition::Three), named(format, Edition::Two));
+        }
+        assert_eq!(
+            named(Format::Onie, Edition::Three),
+            [0x21, 0x22, 0x23, 0x24, 0x25, 0x2A, 0x2B, 0x2C, 0x2D, 0xFD]
+        );
+    }
+
+    #[test]
+    fn one_code_may_repeat() {
+        for format in [Format::Fboss, Format::Vpd, Format::Tiny, Format::Onie] {
+            for code in 0..=255 {
+                let extension = format == Format::Onie && code == 0xFD;
+                assert_eq!(may_repeat(format, code), extension);
+            }
+        }
     }
 
     #[test]
@@ -297,6 +351,8 @@ mod tests {
             (Format::Tiny, POOL, b"any"),
             (Format::Tiny, 0x10, b""),
             (Format::Tiny, 0x10, b"1"),
+            (Format::Onie, 0x21, b"text"),
+            (Format::Onie, 0x2C, b"cz"),
         ] {
             for key in [&b""[..], b"k", b"lab.rack"] {
                 assert_eq!(
@@ -334,6 +390,67 @@ mod tests {
         assert!(!keeps(0x80, &[0, 0, 0, 100, 0, 0, 0, 0]));
         assert!(keeps(0x80, &[0, 0, 0, 0, 0, 0, 0x0F, 0x27]));
         assert!(!keeps(0x80, &[0, 0, 0, 0, 0, 0, 0x10, 0x27]));
+    }
+
+    #[test]
+    fn onie_rules() {
+        let keeps = |code, value: &[u8]| keeps_rule(Format::Onie, code, b"", value);
+        for code in [0x21, 0x22, 0x23, 0x2B, 0x2D] {
+            assert!(keeps(code, b""));
+            assert!(keeps(code, b" ~"));
+            assert!(keeps(code, &[b'x'; 255]));
+            assert!(!keeps(code, &[b'x'; 256]));
+            for byte in 0..=255 {
+                assert_eq!(keeps(code, &[b'x', byte]), (0x20..=0x7E).contains(&byte));
+            }
+        }
+        for (code, length) in [(0x24, 6), (0x2A, 2)] {
+            for other in 0..20 {
+                assert_eq!(keeps(code, &vec![0x00; other]), other == length);
+                assert_eq!(keeps(code, &vec![0xFF; other]), other == length);
+            }
+        }
+        for length in 0..300 {
+            let keeps = keeps(0xFD, &vec![0xEE; length]);
+            assert_eq!(keeps, (4..=255).contains(&length));
+        }
+    }
+
+    #[test]
+    fn onie_dates() {
+        let good = b"06/15/2023 12:34:56";
+        for date in [good, b"00/00/0000 00:00:00", b"99/99/9999 99:99:99"] {
+            assert!(is_date_with_time(date));
+        }
+        assert!(!is_date_with_time(b""));
+        assert!(!is_date_with_time(&good[..18]));
+        assert!(!is_date_with_time(b"06/15/2023 12:34:567"));
+        for place in 0..good.len() {
+            for byte in 0..=255 {
+                let mut date = *good;
+                date[place] = byte;
+                let fits = match place {
+                    2 | 5 => byte == b'/',
+                    10 => byte == b' ',
+                    13 | 16 => byte == b':',
+                    _ => byte.is_ascii_digit(),
+                };
+                assert_eq!(is_date_with_time(&date), fits);
+            }
+        }
+    }
+
+    #[test]
+    fn onie_countries() {
+        let keeps = |value: &[u8]| keeps_rule(Format::Onie, 0x2C, b"", value);
+        for value in [&b""[..], b"C", b"CZE", b"CZ "] {
+            assert!(!keeps(value));
+        }
+        for byte in 0..=255u8 {
+            let capital = matches!(byte, 0x41..=0x5A);
+            assert_eq!(keeps(&[byte, b'Z']), capital);
+            assert_eq!(keeps(&[b'A', byte]), capital);
+        }
     }
 
     #[test]

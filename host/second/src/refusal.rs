@@ -13,7 +13,7 @@ pub struct Refusal {
 #[derive(Clone, Copy, Debug, PartialEq, Eq)]
 #[repr(u32)]
 pub(crate) enum Reason {
-    /// The edition is not 1 or 2.
+    /// The edition is not 1 to 3.
     Edition = 1,
     /// The image or the output is longer than 65,536 bytes.
     TooLong = 2,
@@ -21,7 +21,7 @@ pub(crate) enum Reason {
     Header = 3,
     /// The version byte is another.
     Version = 4,
-    /// A Tiny length is bad, or an entry or the end of the entries runs past the room.
+    /// A Tiny or ONIE length is bad, or an entry or the end of the entries runs past the room.
     PastRoom = 5,
     /// A forbidden code or length byte.
     Forbidden = 6,
@@ -35,7 +35,8 @@ pub(crate) enum Reason {
     Check = 10,
     /// A required field is missing.
     Missing = 11,
-    /// Too few records lent, the output too small, or a Tiny length above 255.
+    /// Too few records lent, the output too small, a Tiny length above 255, or an ONIE length above
+    /// 2,048.
     NoRoom = 12,
     /// No entry of that number, or a field's parts not inside the lent values.
     NoEntry = 13,
@@ -43,7 +44,7 @@ pub(crate) enum Reason {
     NotNamed = 14,
     /// No pool, or no such string.
     NoString = 15,
-    /// The format is not 1 to 3, or not 3 for a string.
+    /// The format is not 1 to 4, or not one that the edition has, or not 3 for a string.
     Format = 16,
 }
 

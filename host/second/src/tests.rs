@@ -1,11 +1,17 @@
 //! The cases of the scope document, the examples of the sources, and the order of refusals.
 
-use crate::checks::{check16, check8};
+use crate::checks::{check16, check32, check8};
 use crate::*;
+
+mod onie;
 
 const FBOSS: u32 = 1;
 const VPD: u32 = 2;
 const TINY: u32 = 3;
+const ONIE: u32 = 4;
+
+/// The editions that there are. All of them have FBOSS, VPD and Tiny.
+const EDITIONS: [u32; 3] = [1, 2, 3];
 
 /// One VPD entry with the key "SKU" and the value "A7".
 const SKU: [u8; 9] = [0x01, 0x03, 0x53, 0x4B, 0x55, 0x02, 0x41, 0x37, 0x00];
@@ -129,7 +135,7 @@ mod both_sides_of_each_line {
 
     #[test]
     fn fboss_header_alone() {
-        for edition in [1, 2] {
+        for edition in EDITIONS {
             assert_eq!(
                 check(FBOSS, edition, &[0xFB, 0xFB, 0x05, 0xFF]),
                 refused(5, 4)
@@ -143,7 +149,7 @@ mod both_sides_of_each_line {
 
     #[test]
     fn vpd_of_no_bytes_and_of_one() {
-        for edition in [1, 2] {
+        for edition in EDITIONS {
             assert_eq!(check(VPD, edition, &[]), refused(5, 0));
             assert_eq!(check(VPD, edition, &[0x00]), Ok(0));
             assert_eq!(check(VPD, edition, &[0xFF]), Ok(0));
@@ -162,7 +168,7 @@ mod both_sides_of_each_line {
             value_len: 2,
             reading: Reading::Plain,
         };
-        for edition in [1, 2] {
+        for edition in EDITIONS {
             assert_eq!(check(VPD, edition, &SKU), Ok(1));
             assert_eq!(list(VPD, edition, &SKU, 1), Ok(vec![sku]));
         }
@@ -170,7 +176,7 @@ mod both_sides_of_each_line {
 
     #[test]
     fn vpd_lengths() {
-        for edition in [1, 2] {
+        for edition in EDITIONS {
             assert_eq!(check(VPD, edition, &[0x01, 0, 0, 0]), refused(7, 0));
             assert_eq!(
                 check(VPD, edition, &[0x01, 0x80, 0x80, 0x80, 0x80]),
@@ -199,7 +205,7 @@ mod both_sides_of_each_line {
 
     #[test]
     fn the_smallest_tiny_images() {
-        for edition in [1, 2] {
+        for edition in EDITIONS {
             assert_eq!(check(TINY, edition, &[0x56, 0x02, 0x04, 0x6F]), Ok(0));
             assert_eq!(
                 check(TINY, edition, &[0x56, 0x02, 0x04, 0x6E]),
@@ -211,7 +217,7 @@ mod both_sides_of_each_line {
 
     #[test]
     fn the_sku_image_edited() {
-        for edition in [1, 2] {
+        for edition in EDITIONS {
             let mut out = [0xA5; 10];
             assert_eq!(edit(VPD, edition, &SKU, 0, b"B", &mut out), Ok(8));
             assert_eq!(
@@ -234,7 +240,12 @@ mod both_sides_of_each_line {
         assert_eq!(program::output(&[]), "refused 16 at 0\n");
         assert_eq!(program::output(&[2]), "refused 16 at 0\n");
         assert_eq!(program::output(&[2, 2]), "refused 5 at 0\n");
-        assert_eq!(program::output(&[2, 3, 0]), "refused 1 at 0\n");
+        assert_eq!(program::output(&[2, 0, 0]), "refused 1 at 0\n");
+        assert_eq!(program::output(&[2, 4, 0]), "refused 1 at 0\n");
+        assert_eq!(
+            program::output(&[2, 3, 0]),
+            "format 2 edition 3 entries 0\n"
+        );
         assert_eq!(
             program::output(&[3, 1, 0x56, 0x02, 0x04, 0x6E]),
             "refused 10 at 3\n"
@@ -329,7 +340,7 @@ mod source_examples {
     #[test]
     fn fboss_twenty_entries() {
         let image = juice();
-        for edition in [1, 2] {
+        for edition in EDITIONS {
             let entries = juice_entries(edition);
             assert_eq!(check(FBOSS, edition, &image), Ok(20));
             assert_eq!(list(FBOSS, edition, &image, 20), Ok(entries.clone()));
@@ -355,7 +366,7 @@ mod source_examples {
     #[test]
     fn fboss_walked() {
         let image = juice();
-        for edition in [1, 2] {
+        for edition in EDITIONS {
             let mut walk = Walk {
                 format: FBOSS,
                 edition,
@@ -389,7 +400,7 @@ mod source_examples {
     #[test]
     fn fboss_edited() {
         let image = juice();
-        for edition in [1, 2] {
+        for edition in EDITIONS {
             let made = edited(FBOSS, edition, &image, 0, b"LAST_SQUEEZE", 0x2000).unwrap();
             let mut expected = image[4..0xCE].to_vec();
             expected.splice(1..15, *b"\x0cLAST_SQUEEZE");
@@ -416,7 +427,7 @@ mod source_examples {
             (b"3G_IMEI", b"AABBBBBB-CC-DD"),
             (b"ethernet_mac", b"\x2a\x02\x03\xb3\xd5\x7c"),
         ];
-        for edition in [1, 2] {
+        for edition in EDITIONS {
             let entries = list(VPD, edition, image, 3).unwrap();
             assert_eq!(entries.len(), 3);
             for (entry, (key, value)) in entries.iter().zip(expected) {
@@ -460,8 +471,8 @@ mod source_examples {
 mod header_and_arguments {
     use super::*;
 
-    const ALL_FORMATS: [u32; 6] = [0, 1, 2, 3, 4, u32::MAX];
-    const ALL_EDITIONS: [u32; 5] = [0, 1, 2, 3, u32::MAX];
+    const ALL_FORMATS: [u32; 8] = [0, 1, 2, 3, 4, 5, 260, u32::MAX];
+    const ALL_EDITIONS: [u32; 8] = [0, 1, 2, 3, 4, 9, 259, u32::MAX];
 
     #[test]
     fn format_then_edition_then_length() {
@@ -470,8 +481,9 @@ mod header_and_arguments {
         for format in ALL_FORMATS {
             for edition in ALL_EDITIONS {
                 let first = match (format, edition) {
-                    (0 | 4.., _) => 16,
-                    (_, 0 | 3..) => 1,
+                    (0 | 5.., _) => 16,
+                    (_, 0 | 4..) => 1,
+                    (4, 1 | 2) => 16,
                     _ => 2,
                 };
                 assert_eq!(check(format, edition, &long), refused(first, 0));
@@ -564,8 +576,8 @@ mod frames_of_images {
 
     fn check_fboss(entries: &[u8]) -> Result<usize, Refusal> {
         let image = [&[0xFB, 0xFB, 0x05, 0xFF], entries].concat();
-        let results = [1, 2].map(|edition| check(FBOSS, edition, &image));
-        assert_eq!(results[0], results[1]);
+        let results = EDITIONS.map(|edition| check(FBOSS, edition, &image));
+        assert_eq!(results, [results[0]; 3]);
         results[0]
     }
 
@@ -609,7 +621,7 @@ mod frames_of_images {
             // Twice the same, with bytes that are no text.
             entries.extend([code, 2, 0x00, 0xFF, code, 0]);
             let image = fboss(&entries);
-            for edition in [1, 2] {
+            for edition in EDITIONS {
                 let entries = list(FBOSS, edition, &image, 7).unwrap();
                 assert_eq!(entries[5], plain(u32::from(code), 0, 19, 21, 2));
                 assert_eq!(entries[6], plain(u32::from(code), 0, 23, 25, 0));
@@ -622,8 +634,8 @@ mod frames_of_images {
     }
 
     fn check_vpd(image: &[u8]) -> Result<usize, Refusal> {
-        let results = [1, 2].map(|edition| check(VPD, edition, image));
-        assert_eq!(results[0], results[1]);
+        let results = EDITIONS.map(|edition| check(VPD, edition, image));
+        assert_eq!(results, [results[0]; 3]);
         results[0]
     }
 
@@ -693,8 +705,8 @@ mod frames_of_images {
     }
 
     fn check_tiny(entries: &[u8]) -> Result<usize, Refusal> {
-        let results = [1, 2].map(|edition| check(TINY, edition, &tiny(entries)));
-        assert_eq!(results[0], results[1]);
+        let results = EDITIONS.map(|edition| check(TINY, edition, &tiny(entries)));
+        assert_eq!(results, [results[0]; 3]);
         results[0]
     }
 
@@ -814,6 +826,7 @@ mod frames_of_images {
             plain(0x01, 769, 62, 64, 3),
         ];
         assert_eq!(list(TINY, 2, &image, 9), Ok(expected.clone()));
+        assert_eq!(list(TINY, 3, &image, 9), Ok(expected.clone()));
         expected[5] = plain(0x80, 0, 28, 29, 8);
         expected[6] = plain(0x81, 0, 37, 38, 8);
         assert_eq!(list(TINY, 1, &image, 9), Ok(expected));
@@ -863,7 +876,7 @@ mod strings {
     #[test]
     fn strings_of_a_pool() {
         let image = tiny(&[0x10, 1, 0x01, 7, b'a', 0xE2, 0x80, b'c', b'd', 0xE5, b'f']);
-        for edition in [1, 2] {
+        for edition in EDITIONS {
             let given = |number| string(TINY, edition, &image, number);
             assert_eq!(given(0), Ok((7, 2)));
             assert_eq!(given(1), Ok((9, 1)));
@@ -1234,7 +1247,7 @@ mod vpd_names {
             value_len: 2,
             reading: Reading::Plain,
         };
-        for edition in [1, 2] {
+        for edition in EDITIONS {
             assert_eq!(check(VPD, edition, LAB), Ok(1));
             assert_eq!(list(VPD, edition, LAB, 1), Ok(vec![record]));
             assert_eq!(list(VPD, edition, LAB, 0), refused(12, 0));
@@ -1259,7 +1272,7 @@ mod vpd_names {
 
     #[test]
     fn any_bytes_are_a_key() {
-        for edition in [1, 2] {
+        for edition in EDITIONS {
             for first in 0..=255 {
                 let key = [first];
                 assert_eq!(keys_read(edition, &of_keys(&[&key])), Ok(vec![&key[..]]));
@@ -1283,7 +1296,7 @@ mod vpd_names {
 
     #[test]
     fn keys_compare_as_bytes() {
-        for edition in [1, 2] {
+        for edition in EDITIONS {
             for key in UNWRITTEN {
                 let second = one(1, key, b"").len() as u64;
                 assert_eq!(
@@ -1327,7 +1340,7 @@ mod vpd_names {
 
     #[test]
     fn an_empty_key_is_refused() {
-        for edition in [1, 2] {
+        for edition in EDITIONS {
             assert_eq!(check(VPD, edition, &of_keys(&[b""])), refused(7, 0));
             assert_eq!(check(VPD, edition, &of_keys(&[b"", b""])), refused(7, 0));
             assert_eq!(check(VPD, edition, &of_keys(&[b".", b""])), refused(7, 4));
@@ -1354,7 +1367,7 @@ mod vpd_names {
 
     #[test]
     fn an_edit_of_a_dotted_entry() {
-        for edition in [1, 2] {
+        for edition in EDITIONS {
             assert_eq!(
                 edited(VPD, edition, LAB, 0, b"B", 20),
                 Ok(b"\x01\x08lab.rack\x01B\x00".to_vec())
@@ -1382,7 +1395,7 @@ mod vpd_names {
 
     #[test]
     fn an_edit_next_to_a_dotted_entry() {
-        for edition in [1, 2] {
+        for edition in EDITIONS {
             let entries: [&[u8]; 4] = [
                 b"\x01\x80\x08lab.rack\x80\x80\x01x",
                 b"\x01\x03SKU\x02A7",
@@ -1421,7 +1434,7 @@ mod vpd_names {
     #[test]
     fn a_write_of_a_dotted_name() {
         let good: [(u32, &[u8], &[u8]); 3] = [(1, b"a", b"1"), (1, b"B_9", b""), (1, b"_", b"3")];
-        for edition in [1, 2] {
+        for edition in EDITIONS {
             assert!(written(VPD, edition, &good, 60).is_ok());
             for key in UNWRITTEN {
                 for number in 0..=good.len() {
@@ -1462,7 +1475,7 @@ mod vpd_names {
                 } else {
                     refused(7, 1)
                 };
-                for edition in [1, 2] {
+                for edition in EDITIONS {
                     assert_eq!(keys_read(edition, &image), Ok(vec![&key[..]]));
                     let parts = [(1, &b"ok"[..], &b""[..]), (1, &key, b"v")];
                     let made = written(VPD, edition, &parts, 50);
@@ -1529,7 +1542,7 @@ mod vpd_names {
         let of = |keys: &[Vec<u8>]| of_keys(&keys.iter().map(|key| &key[..]).collect::<Vec<_>>());
         let image = of(&keys);
         assert_eq!(image.len(), 65_535);
-        for edition in [1, 2] {
+        for edition in EDITIONS {
             let expected: Vec<&[u8]> = keys.iter().map(|key| &key[..]).collect();
             assert_eq!(keys_read(edition, &image), Ok(expected));
             assert_eq!(list(VPD, edition, &image, 13_157), refused(12, 0));
@@ -1755,6 +1768,19 @@ mod drawn {
                         entries.push(4);
                         entries.extend((0..4).map(|_| self.byte()));
                     }
+                    ONIE => {
+                        let (code, length) = [
+                            (0x21, 3),
+                            (0x2D, 0),
+                            (0x24, 6),
+                            (0x2A, 2),
+                            (0x26, 1),
+                            (0xFD, 4),
+                            (0xFD, 7),
+                        ][self.below(7) as usize];
+                        entries.extend([code, length]);
+                        entries.extend((0..length).map(|_| b' ' + self.below(95) as u8));
+                    }
                     _ => {
                         let code = [0x10, 0x11, 0x60, 0x61, 0x62, 0x80, 0x81, 0x30, 0x01]
                             [self.below(9) as usize];
@@ -1773,6 +1799,7 @@ mod drawn {
             let mut image = match format {
                 FBOSS => fboss(&[&required()[..], &entries].concat()),
                 VPD => [&entries[..], &[0]].concat(),
+                ONIE => onie::image(&entries),
                 _ => tiny(&entries),
             };
             if self.below(3) == 0 {
@@ -1790,14 +1817,14 @@ mod drawn {
     fn all_calls_agree_on_any_image() {
         let mut draw = Draw(0x9E37_79B9_7F4A_7C15);
         let mut accepted = 0;
-        for round in 0..30_000 {
-            let format = 1 + round % 3;
+        for round in 0..40_000 {
+            let format = 1 + round % 4;
             let image = if draw.below(10) == 0 {
                 draw.bytes(40)
             } else {
                 draw.image(format)
             };
-            for edition in [1, 2] {
+            for edition in EDITIONS {
                 match check(format, edition, &image) {
                     Ok(count) => {
                         accepted += 1;
@@ -1816,8 +1843,8 @@ mod drawn {
             }
         }
         // The draw is of use only where it meets both answers often.
-        assert!(accepted > 5_000);
-        assert!(accepted < 55_000);
+        assert!(accepted > 10_000);
+        assert!(accepted < 90_000);
     }
 
     fn agree(draw: &mut Draw, format: u32, edition: u32, image: &[u8], count: usize) {
@@ -1889,13 +1916,60 @@ mod drawn {
         )
     }
 
+    /// Edition 3 names nothing new in the older formats (02, ONIE images and edition 3).
+    #[test]
+    fn edition_three_is_edition_two_in_the_older_formats() {
+        let mut draw = Draw(0x2545_F491_4F6C_DD1D);
+        for round in 0..15_000 {
+            let format = 1 + round % 3;
+            let image = draw.image(format);
+            let value = draw.bytes(12);
+            let n = draw.below(5);
+            let codes = match format {
+                FBOSS => [1, 8, 9, 10, 11, 20, 21, 13],
+                VPD => [1, 1, 1, 1, 0xFE, 0xFE, 2, 1],
+                _ => [0x10, 0x11, 0x60, 0x61, 0x80, 0x81, 0x01, 0x12],
+            };
+            let fields: Vec<u8> = (0..draw.below(8) as usize)
+                .flat_map(|field| {
+                    let length = draw.below(9) as u32;
+                    [codes[field], field as u32, 1, field as u32, length]
+                })
+                .flat_map(u32::to_le_bytes)
+                .collect();
+            let all = |edition: u32| {
+                let mut records = vec![0xA5; 20 * 64];
+                let mut record = vec![0xA5; 64];
+                let mut stepped = vec![0xA5; 64];
+                let mut walk = [format, edition, n as u32, 0]
+                    .map(u32::to_le_bytes)
+                    .concat();
+                let mut edited = vec![0xA5; 120];
+                let mut written = vec![0xA5; 120];
+                let answers = [
+                    bytes::check(format, edition, &image),
+                    bytes::list(format, edition, &image, &mut records),
+                    bytes::entry(format, edition, &image, n, &mut record),
+                    bytes::value(format, edition, &image, n),
+                    bytes::string(format, edition, &image, n),
+                    bytes::step(&mut walk, &image, &mut stepped),
+                    bytes::edit(format, edition, &image, n, &value, &mut edited),
+                    bytes::write(format, edition, &fields, b"01010101abcdefgh", &mut written),
+                ];
+                let moved = walk.split_off(8);
+                (answers, [records, record, stepped, moved, edited, written])
+            };
+            assert_eq!(all(2), all(3));
+        }
+    }
+
     #[test]
     fn byte_calls_take_any_lengths() {
         let mut draw = Draw(0x0123_4567_89AB_CDEF);
         for _ in 0..20_000 {
-            let format = draw.below(5) as u32;
-            let edition = draw.below(4) as u32;
-            let image = draw.image(format.clamp(1, 3));
+            let format = draw.below(6) as u32;
+            let edition = draw.below(5) as u32;
+            let image = draw.image(format.clamp(1, 4));
             let fields = draw.bytes(90);
             let values = draw.bytes(30);
             let mut out = draw.bytes(90);

@@ -3,10 +3,11 @@
 use std::borrow::Cow;
 
 use crate::accept::{accept, Present};
-use crate::checks::{check16, check8};
+use crate::checks::{check16, check32, check8};
 use crate::formats::{
-    not_too_long, Edition, Format, FBOSS_END, FBOSS_END_LENGTH, FBOSS_HEADER, POOL, TINY_MAGIC,
-    TINY_VERSION, VPD_END,
+    known, not_too_long, Format, FBOSS_END, FBOSS_END_LENGTH, FBOSS_HEADER, ONIE_END,
+    ONIE_END_LENGTH, ONIE_HEADER_LEN, ONIE_MAGIC, ONIE_VERSION, POOL, TINY_MAGIC, TINY_VERSION,
+    VPD_END,
 };
 use crate::names;
 use crate::refusal::{Reason, Refusal};
@@ -23,8 +24,7 @@ pub fn write(
     values: &[u8],
     out: &mut [u8],
 ) -> Result<usize, Refusal> {
-    let format = Format::from_number(format)?;
-    let edition = Edition::from_number(edition)?;
+    let (format, edition) = known(format, edition)?;
     not_too_long(out)?;
 
     let mut present = Present::default();
@@ -38,7 +38,7 @@ pub fn write(
         let not_inside = Reason::NoEntry.at(number);
         let key = match format {
             Format::Vpd => part(values, field.key_place, field.key_len).ok_or(not_inside)?,
-            Format::Fboss | Format::Tiny => &[],
+            Format::Fboss | Format::Tiny | Format::Onie => &[],
         };
         let value = part(values, field.value_place, field.value_len).ok_or(not_inside)?;
         if pool_seen {
@@ -78,8 +78,7 @@ pub fn edit(
     value: &[u8],
     out: &mut [u8],
 ) -> Result<usize, Refusal> {
-    Format::from_number(format)?;
-    Edition::from_number(edition)?;
+    known(format, edition)?;
     not_too_long(out)?;
     let accepted = accept(format, edition, image)?;
     let format = accepted.format;
@@ -100,7 +99,7 @@ pub fn edit(
     // The length of a value comes right after the key, or after the code where there is no key.
     let length_place = match format {
         Format::Vpd => frame.key.end,
-        Format::Fboss | Format::Tiny => frame.place + 1,
+        Format::Fboss | Format::Tiny | Format::Onie => frame.place + 1,
     };
     let body = [
         Cow::from(&image[format.header_len()..length_place]),
@@ -122,7 +121,7 @@ fn part(values: &[u8], place: u64, length: u64) -> Option<&[u8]> {
 fn value_length(format: Format, code: u8, value: &[u8]) -> Vec<u8> {
     match format {
         // The rules allow no value above 255 bytes.
-        Format::Fboss => vec![value.len() as u8],
+        Format::Fboss | Format::Onie => vec![value.len() as u8],
         Format::Vpd => vpd_length(value.len()),
         Format::Tiny if code >> 4 == 0 => vec![value.len() as u8],
         // The tag itself gives the length.
@@ -153,19 +152,11 @@ fn deliver(format: Format, body: &[Cow<[u8]>], out: &mut [u8]) -> Result<usize, 
         format.header_len() + format.end_len(),
         usize::saturating_add,
     );
-    let tiny_length = match format {
-        Format::Tiny => u8::try_from(length).map_err(|_| Reason::NoRoom.at(0))?,
-        Format::Fboss | Format::Vpd => 0,
-    };
-    if length > out.len() {
+    if length > format.longest() || length > out.len() {
         return Err(Reason::NoRoom.at(0));
     }
 
-    let mut image = match format {
-        Format::Fboss => FBOSS_HEADER.to_vec(),
-        Format::Vpd => Vec::new(),
-        Format::Tiny => vec![TINY_MAGIC, TINY_VERSION, tiny_length],
-    };
+    let mut image = header(format, length);
     image.extend(body.iter().flat_map(|piece| piece.iter()));
     match format {
         Format::Fboss => {
@@ -175,12 +166,32 @@ fn deliver(format: Format, body: &[Cow<[u8]>], out: &mut [u8]) -> Result<usize, 
         }
         Format::Vpd => image.push(VPD_END),
         Format::Tiny => image.push(check8(&image)),
+        Format::Onie => {
+            image.extend([ONIE_END, ONIE_END_LENGTH]);
+            image.extend(check32(&image).to_be_bytes());
+        }
     }
 
     let (made, after) = out.split_at_mut(length);
     made.copy_from_slice(&image);
     after.fill(0xFF);
     Ok(length)
+}
+
+/// The header of an image that has so many bytes, its end included. They are not too many.
+fn header(format: Format, length: usize) -> Vec<u8> {
+    match format {
+        Format::Fboss => FBOSS_HEADER.to_vec(),
+        Format::Vpd => Vec::new(),
+        Format::Tiny => vec![TINY_MAGIC, TINY_VERSION, length as u8],
+        Format::Onie => {
+            let declared = (length - ONIE_HEADER_LEN) as u16;
+            let mut header = ONIE_MAGIC.to_vec();
+            header.push(ONIE_VERSION);
+            header.extend(declared.to_be_bytes());
+            header
+        }
+    }
 }
 
 #[cfg(test)]

@@ -1,10 +1,10 @@
 //! The examples of DECISIONS.
 
 use images::fields::List;
-use images::image::{Entry, Format, Image, LONGEST};
+use images::image::{Entry, Format, Image, LONGEST, ONIE_LONGEST};
 use images::random::Random;
 use images::vpd::{self, Rule};
-use images::{fboss, tiny};
+use images::{fboss, onie, tiny};
 
 use super::scope::SKU;
 use super::*;
@@ -21,7 +21,7 @@ pub fn on_reading(compare: &mut Comparison) {
     );
 
     let sku = bytes(SKU);
-    for edition in [1, 2] {
+    for edition in EDITIONS {
         compare.next_case();
         let check = Call::check(VPD, edition, &sku);
         let walk = |n| walk_bytes(VPD, edition, n);
@@ -116,7 +116,7 @@ pub fn on_reading(compare: &mut Comparison) {
         ("56 02 04 6F", vec![]),
     ] {
         let image = bytes(image);
-        for edition in [1, 2] {
+        for edition in EDITIONS {
             compare.next_case();
             let check = Call::check(TINY, edition, &image);
             for (number, &answer) in (0..).zip(&strings) {
@@ -128,7 +128,15 @@ pub fn on_reading(compare: &mut Comparison) {
         }
     }
     compare.next_case();
-    for (format, edition, answer) in [(1, 9, 16), (2, 1, 16), (0, 1, 16), (259, 1, 16), (3, 9, 1)] {
+    for (format, edition, answer) in [
+        (1, 9, 16),
+        (2, 1, 16),
+        (0, 1, 16),
+        (259, 1, 16),
+        (3, 9, 1),
+        (3, 0, 1),
+        (3, 4, 1),
+    ] {
         let call = Call::check(format, edition, &sku).string(0);
         compare.case("D19", &call, refused(answer, 0), None);
     }
@@ -155,7 +163,7 @@ fn written(
 
 /// DECISIONS, D2, D3 and D8 to D13.
 pub fn on_writing(compare: &mut Comparison) {
-    for edition in [1, 2] {
+    for edition in EDITIONS {
         compare.next_case();
         let long_forms = bytes("01 80 03 53 4B 55 80 02 41 37 00");
         let edited = bytes("01 80 03 53 4B 55 01 42 00 FF FF");
@@ -210,7 +218,7 @@ pub fn on_writing(compare: &mut Comparison) {
         [10, 0, 0, 0, 1],
         [11, 0, 0, 0, 0],
     ];
-    for edition in [1, 2] {
+    for edition in EDITIONS {
         for (value, length, answer) in [
             (trailing, 12, given(35)),
             (trailing, 11, refused(7, 5)),
@@ -271,7 +279,7 @@ pub fn on_writing(compare: &mut Comparison) {
 
     let end_only = bytes("00");
     let empty_tiny = bytes("56 02 04 6F");
-    for edition in [1, 2] {
+    for edition in EDITIONS {
         for (format, room, answer, out) in [
             (FBOSS, 8, refused(11, 0), None),
             (FBOSS, 0, refused(11, 0), None),
@@ -296,7 +304,7 @@ pub fn on_writing(compare: &mut Comparison) {
 /// DECISIONS, D5, D9 and D12: lengths on both sides of a line.
 pub fn on_lengths(compare: &mut Comparison) {
     let mut ended = vec![0; LONGEST + 1];
-    for edition in [1, 2] {
+    for edition in EDITIONS {
         compare.next_case();
         let longest = Call::check(VPD, edition, &ended[..LONGEST]);
         let too_long = Call::check(VPD, edition, &ended);
@@ -311,7 +319,7 @@ pub fn on_lengths(compare: &mut Comparison) {
     let mut full = bytes("01 01 41 83 FF 79");
     full.resize(LONGEST - 1, b'A');
     full.push(0);
-    for edition in [1, 2] {
+    for edition in EDITIONS {
         let one = |length| [[1, 0, 1, 0, length]];
         let mut vpd = |fields: &[[u32; 5]], room, answer, out| {
             written(
@@ -333,7 +341,7 @@ pub fn on_lengths(compare: &mut Comparison) {
 
     // The same lines in an edit, and a lent part whose length needs more than 16 bits.
     let small = bytes("01 01 41 00 00");
-    for edition in [1, 2] {
+    for edition in EDITIONS {
         compare.next_case();
         let check = Call::check(VPD, edition, &small);
         let mut edited = |length: usize, room, answer, out| {
@@ -354,7 +362,7 @@ pub fn on_lengths(compare: &mut Comparison) {
     let pool =
         |length: usize| Image::new(Format::Tiny, vec![Entry::new(1, vec![b'A'; length])]).bytes();
     let largest = pool(249);
-    for edition in [1, 2] {
+    for edition in EDITIONS {
         let one = |length| [[1, 0, 0, 0, length]];
         let mut tiny = |length, answer, out| {
             written(
@@ -397,8 +405,8 @@ pub fn on_lengths(compare: &mut Comparison) {
     }
 }
 
-/// DECISIONS, Largest entry counts: images with as many entries as 65,536 bytes can hold, with one
-/// entry twice, and writes of as many fields.
+/// DECISIONS, Largest entry counts: images with as many entries as 65,536 bytes can hold, or ONIE's
+/// 2,059, with one entry twice, and writes of as many fields.
 pub fn largest_images(compare: &mut Comparison) {
     let mut random = Random::of_input(0, 0, 0);
     let mut mixed = vpd::distinct(Rule::Reader, 13_158);
@@ -408,27 +416,33 @@ pub fn largest_images(compare: &mut Comparison) {
             Format::Fboss,
             fboss::filling(&mut random, LONGEST, 0),
             32_762,
-            1,
+            1..=3,
         ),
-        (Format::Vpd, vpd::shortest(LONGEST), 21_845, 1),
+        (Format::Vpd, vpd::shortest(LONGEST), 21_845, 1..=1),
         (
             Format::Vpd,
             vpd::filling(&mut random, Rule::Reader, LONGEST, 0),
             13_158,
-            2,
+            1..=3,
         ),
-        (Format::Vpd, mixed, 13_158, 2),
+        (Format::Vpd, mixed, 13_158, 1..=3),
         (
             Format::Vpd,
             vpd::filling(&mut random, Rule::Writer, LONGEST, 0),
             11_605,
-            2,
+            1..=3,
         ),
-        (Format::Tiny, tiny::shortest(&mut random), 125, 2),
+        (Format::Tiny, tiny::shortest(&mut random), 125, 1..=3),
+        (
+            Format::Onie,
+            onie::filling(&mut random, ONIE_LONGEST, 0),
+            1_021,
+            3..=3,
+        ),
     ];
-    for (format, entries, count, newest) in images {
+    for (format, entries, count, editions) in images {
         let image = Image::new(format, entries).bytes();
-        for edition in 1..=newest {
+        for edition in editions {
             compare.next_case();
             let check = Call::check(format.number(), edition, &image);
             compare.case("largest", &check, given(count), None);
@@ -453,7 +467,7 @@ pub fn largest_images(compare: &mut Comparison) {
     for count in [13_157, 13_158, 13_159] {
         let entries = vpd::distinct(Rule::Reader, count);
         let image = Image::new(Format::Vpd, entries).bytes();
-        for edition in [1, 2] {
+        for edition in EDITIONS {
             compare.next_case();
             let check = Call::check(VPD, edition, &image);
             if count == 13_159 {
@@ -480,7 +494,7 @@ pub fn largest_images(compare: &mut Comparison) {
             let mut entries = entries.clone();
             entries[last].key = entries[other].key.clone();
             let image = Image::new(Format::Vpd, entries).bytes();
-            for edition in [1, 2] {
+            for edition in EDITIONS {
                 compare.next_case();
                 let place = LONGEST as u64 - 7;
                 compare.case(

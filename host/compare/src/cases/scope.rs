@@ -16,7 +16,7 @@ pub fn both_sides_of_each_line(compare: &mut Comparison) {
     checked(compare, VPD, "FF", given(0));
 
     let sku = bytes(SKU);
-    for edition in [1, 2] {
+    for edition in EDITIONS {
         let check = Call::check(VPD, edition, &sku);
         let sku_record = record(&[1, 513, 0, 2, 3, 6, 2]);
         listed(compare, &check, SKU, &[sku_record]);
@@ -25,7 +25,7 @@ pub fn both_sides_of_each_line(compare: &mut Comparison) {
     checked(compare, VPD, "01 00 00 00", refused(7, 0));
     checked(compare, VPD, "01 80 80 80 80", refused(6, 0));
     let long_key_length = bytes("01 80 01 41 00 00");
-    for edition in [1, 2] {
+    for edition in EDITIONS {
         let check = Call::check(VPD, edition, &long_key_length);
         let one = record(&[1, 513, 0, 3, 1, 5, 0]);
         listed(compare, &check, "01 80 01 41 00 00", &[one]);
@@ -42,7 +42,7 @@ pub fn both_sides_of_each_line(compare: &mut Comparison) {
     checked(compare, TINY, "56 02 04 6E", refused(10, 3));
     checked(compare, TINY, "56 02 03", refused(5, 2));
 
-    for edition in [1, 2] {
+    for edition in EDITIONS {
         compare.next_case();
         let check = Call::check(VPD, edition, &sku);
         let edited = bytes("01 03 53 4B 55 01 42 00 FF FF");
@@ -58,7 +58,7 @@ pub fn both_sides_of_each_line(compare: &mut Comparison) {
     // 84 82 01 reads 65,793, which no image can hold: too long with it, past the room without.
     let mut long = bytes("01 03 61 6E 79 84 82 01");
     long.resize(8 + 65_793 + 1, 0x00);
-    for edition in [1, 2] {
+    for edition in EDITIONS {
         compare.next_case();
         let check = Call::check(VPD, edition, &long);
         compare.case("84 82 01", &check, refused(2, 0), None);
@@ -82,10 +82,10 @@ pub fn every_tag_image() -> Vec<u8> {
     Image::new(Format::Tiny, entries).bytes()
 }
 
-/// 01, Tiny version 2: every named tag in both editions, and the strings of a pool.
+/// 01, Tiny version 2: every named tag in all editions, and the strings of a pool.
 pub fn every_tag(compare: &mut Comparison) {
     let image = every_tag_image();
-    for edition in [1, 2] {
+    for edition in EDITIONS {
         let kind = |code| match (edition, code) {
             (1, 0x80 | 0x81) => 0,
             _ => 768 + code,

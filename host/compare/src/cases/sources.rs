@@ -38,7 +38,7 @@ pub fn reference_checks(compare: &mut Comparison) {
             6
         };
         image.extend([0xFA, 0x02, 0x00, 0x00]);
-        for edition in [1, 2] {
+        for edition in EDITIONS {
             compare.next_case();
             let call = Call::check(FBOSS, edition, &image);
             compare.case("reference check", &call, given(entries), None);
@@ -125,7 +125,7 @@ pub fn fboss_example(compare: &mut Comparison) {
     }
     let field_bytes = fields.bytes();
 
-    for edition in [1, 2] {
+    for edition in EDITIONS {
         let records = fboss_example_records(edition);
         for image in [&short, &whole] {
             let check = Call::check(FBOSS, edition, image);
@@ -186,7 +186,7 @@ pub fn vpd_example(compare: &mut Comparison) {
     let field_bytes = fields.bytes();
     let mut with_rest = image.clone();
     with_rest.resize(80, 0xFF);
-    for edition in [1, 2] {
+    for edition in EDITIONS {
         let check = Call::check(VPD, edition, &image);
         listed(compare, &check, "002's example", &records);
         compare.next_case();

@@ -1,17 +1,19 @@
 //! Sweeps over small images: every format, every length, every byte, every code.
 
 use images::fields::List;
-use images::generate::{kept, named};
+use images::generate::{kept, named, offered, valid};
 use images::image::{seal, Entry, Format, Image, FORMATS, LONGEST};
 use images::random::Random;
+use images::{damage, fields};
 
+use super::onie::SWITCH;
 use super::scope::every_tag_image;
 use super::sources::{fboss_example_image, vpd_example_image};
 use super::*;
 use crate::plan;
 
-/// The three small images of the sweeps.
-fn small_images() -> [(Format, Vec<u8>); 3] {
+/// The four small images of the sweeps.
+fn small_images() -> [(Format, Vec<u8>); 4] {
     let mut vpd = vpd_example_image();
     vpd.pop();
     vpd.extend(b"\xFE\x08gVpdInfo\x04\x00\x01\x00\x00\x01\x80\x01A\x80\x00");
@@ -20,6 +22,7 @@ fn small_images() -> [(Format, Vec<u8>); 3] {
         (Format::Fboss, fboss_example_image()),
         (Format::Vpd, vpd),
         (Format::Tiny, every_tag_image()),
+        (Format::Onie, SWITCH.to_vec()),
     ]
 }
 
@@ -41,6 +44,7 @@ pub fn every_format_and_edition(compare: &mut Comparison) {
             257,
             258,
             259,
+            260,
             1 << 16,
             1 << 31,
             u32::MAX,
@@ -51,10 +55,12 @@ pub fn every_format_and_edition(compare: &mut Comparison) {
                 2,
                 3,
                 4,
+                5,
                 255,
                 256,
                 257,
                 258,
+                259,
                 1 << 16,
                 1 << 31,
                 u32::MAX,
@@ -93,11 +99,11 @@ fn every_byte(compare: &mut Comparison, format: Format, image: &[u8]) {
             compare.next_case();
             let mut changed = image.to_vec();
             changed[place] = value;
-            for edition in [1, 2] {
+            for &edition in format.editions() {
                 compare.call(&Call::check(format.number(), edition, &changed));
             }
             seal(format, &mut changed);
-            for edition in [1, 2] {
+            for &edition in format.editions() {
                 let check = Call::check(format.number(), edition, &changed);
                 compare.call(&check.list(30 * RECORD));
             }
@@ -106,30 +112,35 @@ fn every_byte(compare: &mut Comparison, format: Format, image: &[u8]) {
 }
 
 pub fn fboss_bytes(compare: &mut Comparison) {
-    let [(format, image), _, _] = small_images();
+    let [(format, image), _, _, _] = small_images();
     every_byte(compare, format, &image);
 }
 
 pub fn vpd_bytes(compare: &mut Comparison) {
-    let [_, (format, image), _] = small_images();
+    let [_, (format, image), _, _] = small_images();
     every_byte(compare, format, &image);
 }
 
 pub fn tiny_bytes(compare: &mut Comparison) {
-    let [_, _, (format, image)] = small_images();
+    let [_, _, (format, image), _] = small_images();
+    every_byte(compare, format, &image);
+}
+
+pub fn onie_bytes(compare: &mut Comparison) {
+    let [_, _, _, (format, image)] = small_images();
     every_byte(compare, format, &image);
 }
 
 /// Edits of every entry of a small image: to every length, and with every value of each byte.
 pub fn values_of_edits(compare: &mut Comparison) {
     for (format, image) in small_images() {
-        let check = Call::check(format.number(), 2, &image);
-        let entries = second::list(check.format, 2, &image, usize::MAX).unwrap_or_default();
+        let check = Call::check(format.number(), 3, &image);
+        let entries = second::list(check.format, 3, &image, usize::MAX).unwrap_or_default();
         for (n, entry) in (0..).zip(&entries) {
             compare.next_case();
             for length in (0..=20).chain(125..=130).chain(240..=260) {
                 let value = vec![b'1'; length];
-                for edition in [1, 2] {
+                for &edition in format.editions() {
                     let call = Call { edition, ..check };
                     compare.call(&call.edit(n, &value, 480));
                 }
@@ -151,7 +162,7 @@ pub fn values_of_edits(compare: &mut Comparison) {
 /// writer takes only one for a 01h.
 pub fn codes_of_fields(compare: &mut Comparison) {
     for format in FORMATS {
-        for edition in [1, 2] {
+        for &edition in format.editions() {
             for code in 0..=300 {
                 compare.next_case();
                 let mut random = Random::of_input(0, format.number(), u64::from(code));
@@ -231,6 +242,10 @@ pub fn places_of_long_parts(compare: &mut Comparison) {
         if let Some(byte) = text.get_mut(place) {
             *byte = 0x7F;
         }
+        compare.call(&Call::check(ONIE, 3, SWITCH).edit(0, &text, 600));
+        let entries = [Entry::new(0x2B, text.clone())];
+        let image = Image::new(Format::Onie, entries.to_vec()).bytes();
+        compare.call(&Call::check(ONIE, 3, &image));
         let image = fboss_example_image();
         let check = Call::check(FBOSS, 2, &image);
         compare.call(&check.edit(0, &text, 600));
@@ -241,5 +256,66 @@ pub fn places_of_long_parts(compare: &mut Comparison) {
         edited[6..6 + 255].copy_from_slice(&text);
         seal(Format::Fboss, &mut edited);
         compare.call(&Call::check(FBOSS, 2, &edited));
+    }
+}
+
+/// Every call on generated images and field lists of the older formats, in which edition 3 gives and
+/// writes what edition 2 does.
+pub fn editions_alike(compare: &mut Comparison) {
+    let alike = |compare: &mut Comparison, newer: &Call| {
+        let walk = walk_bytes(newer.format, 2, newer.n);
+        let older = match newer.walk {
+            [] => Call {
+                edition: 2,
+                ..*newer
+            },
+            _ => newer.step(&walk, newer.room),
+        };
+        let (answer, made) = compare.call(&older);
+        // A refused call leaves what was there, which differs from call to call.
+        let made = (answer >> 59 == 0).then_some(&made[..]);
+        compare.case("editions 2 and 3", newer, answer, made);
+    };
+    for format in [Format::Fboss, Format::Vpd, Format::Tiny] {
+        for input in 0..300 {
+            compare.next_case();
+            let mut random = Random::of_input(2, format.number(), input);
+            let mut image = valid(&mut random, format);
+            image.after.truncate(20);
+            let image = match random.below(3) {
+                0 => damage::damaged(&mut random, image),
+                _ => image.bytes(),
+            };
+            let check = Call::check(format.number(), 3, &image);
+            let entries = second::list(format.number(), 3, &image, usize::MAX).unwrap_or_default();
+            alike(compare, &check);
+            alike(compare, &check.list(entries.len() * RECORD));
+            alike(
+                compare,
+                &check.list((entries.len() * RECORD).saturating_sub(1)),
+            );
+            for n in 0..=entries.len() as u64 {
+                let walk = walk_bytes(format.number(), 3, n);
+                let step = Call {
+                    n,
+                    ..check.step(&walk, RECORD)
+                };
+                alike(compare, &check.entry(n, RECORD));
+                alike(compare, &check.value(n));
+                alike(compare, &check.string(n));
+                alike(compare, &step);
+                let code = entries.get(n as usize).map_or(1, |entry| entry.code as u8);
+                let value = offered(&mut random, format, code);
+                alike(compare, &check.edit(n, &value, image.len() + 600));
+            }
+            let list = fields::list(&mut random, format, 3);
+            let (bytes, values) = (list.bytes(), &list.values);
+            for room in [3_000, 40] {
+                alike(
+                    compare,
+                    &Call::write(format.number(), 3, &bytes, values, room),
+                );
+            }
+        }
     }
 }

@@ -74,14 +74,14 @@ fn record_of(place: usize, key: &[u8], value: &[u8]) -> Vec<u8> {
     record(&[1, 513, place, place + 2, key, place + 3 + key, value])
 }
 
-/// What every call refuses, in both editions.
+/// What every call refuses, in all editions.
 fn refused_image(compare: &mut Comparison, image: &[u8], number: u64, place: usize) {
     checked(compare, VPD, &hex(image), refused(number, place as u64));
 }
 
 /// Any key of at least one byte is read, and keys compare as bytes.
 pub fn read(compare: &mut Comparison) {
-    for edition in [1, 2] {
+    for edition in EDITIONS {
         let check = Call::check(VPD, edition, LAB);
         let lab = record_of(0, b"lab.rack", b"A7");
         listed(compare, &check, "lab.rack", &[lab]);
@@ -146,7 +146,7 @@ pub fn read(compare: &mut Comparison) {
 
 /// An edit of an entry, and of the one next to it, keeps the bytes of its key.
 pub fn edited(compare: &mut Comparison) {
-    for edition in [1, 2] {
+    for edition in EDITIONS {
         compare.next_case();
         let check = Call::check(VPD, edition, LAB);
         for (value, made) in [
@@ -227,7 +227,7 @@ pub fn written(compare: &mut Comparison) {
         }
         (list.bytes(), list.values)
     };
-    for edition in [1, 2] {
+    for edition in EDITIONS {
         for key in UNWRITTEN.into_iter().chain([&b""[..]]) {
             for number in 0..=good.len() {
                 compare.next_case();
@@ -264,7 +264,7 @@ pub fn written(compare: &mut Comparison) {
         compare.case("7, then 12", &call, refused(7, 0), None);
 
         // A second FEh whose value is wrong is 7, and else 8, whatever the keys.
-        if edition == 2 {
+        if edition > 1 {
             for (key, value, number) in [
                 (&b"a.b"[..], &b"123"[..], 7),
                 (b"a.b", b"1234", 8),
@@ -321,7 +321,7 @@ pub fn every_key_byte(compare: &mut Comparison) {
             list.add(1, key, b"v");
             list.add(1, b"a", b"");
             let fields = list.bytes();
-            for edition in [1, 2] {
+            for edition in EDITIONS {
                 if let Some(place) = twice {
                     checked_in(compare, VPD, edition, &hex(&old), refused(8, place));
                 } else {
@@ -358,7 +358,7 @@ pub fn every_key_byte(compare: &mut Comparison) {
                 true => refused(8, 4),
                 false => given(2),
             };
-            for edition in [1, 2] {
+            for edition in EDITIONS {
                 let check = Call::check(VPD, edition, &image);
                 compare.case("two keys", &check, answer, None);
             }
@@ -378,7 +378,7 @@ pub fn numbers_of_keys(compare: &mut Comparison) {
             let last = count - 1;
             let before_last = Image::new(Format::Vpd, entries[..last].to_vec()).bytes();
             let place = before_last.len() as u64 - 1;
-            for edition in [1, 2] {
+            for edition in EDITIONS {
                 compare.next_case();
                 let all = Image::new(Format::Vpd, entries.clone()).bytes();
                 let check = Call::check(VPD, edition, &all);
