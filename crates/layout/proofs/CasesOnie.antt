@@ -122,6 +122,9 @@ cases =
     ∷ checks 4 3 (onieOf (block (hex "DD 5B 30 9E") 247) (hex "72 AD F7 D5")) (Accepted 1)
     ∷ checks 4 3 (onieOf (block (hex "E2 96 80 93") 255) (hex "72 AD F7 D5")) (Accepted 1)
     ∷ checks 4 3 (hex "54 6C 76 49 6E 66 6F 00 01 06 00 FE 04 D4 43 1C 18") (refuses 5 9)
+    -- a number that is no byte is no part of a length
+    ∷ checks 4 3 (hex "54 6C 76 49 6E 66 6F 00 01 00" ++ (256 ∷ replicate 256 0x00)) (refuses 5 9)
+    ∷ checks 4 3 (hex "54 6C 76 49 6E 66 6F 00 01 00" ++ (255 ∷ replicate 255 0x00)) (refuses 6 11)
     -- bytes from the declared end on are not looked at
     ∷ checks 4 3 (noEntries ++ hex "00") (Accepted 0)
     ∷ checks 4 3 (noEntries ++ hex "FE 04 00 00 00 00 21 01") (Accepted 0)
@@ -183,6 +186,10 @@ cases =
     ∷ checks 4 3 (onieOf (hex "21 01 41") (hex "2A 0E DC 34")) (refuses 10 16)
     ∷ checks 4 3 (hex "54 6C 76 49 6E 66 6F 00 01 00 06 FE 04 D4 43 1C 19") (refuses 10 13)
     ∷ checks 4 3 (hex "54 6C 76 49 6E 66 6F 00 01 00 06 FE 04 18 1C 43 D4") (refuses 10 13)
+    -- checks of bytes 00h and FFh alone
+    ∷ checks 4 3 (onieOf (hex "FD 04 D3 9A 7F 75") (hex "00 FF FF FF")) (Accepted 1)
+    ∷ checks 4 3 (onieOf (hex "FD 04 C5 07 33 DA") (hex "FF 00 00 00")) (Accepted 1)
+    ∷ checks 4 3 (onieOf (hex "FD 04 40 13 C1 44") (hex "FF FF FF FF")) (Accepted 1)
     -- after the frames, before 7 and 8
     ∷ checks 4 3 (onieOf (hex "21 01 7F") (hex "FB 04 EB 51")) (refuses 7 11)
     ∷ checks 4 3 (onieOf (hex "21 01 7F") (hex "FB 04 EB 50")) (refuses 10 16)
@@ -197,19 +204,16 @@ cases =
     ∷ checks 4 3 (onieOf (hex "2B 03 FF 41 42") (hex "73 8E 50 20")) (refuses 7 11)
     ∷ checks 4 3 (onieOf (hex "21 01 41 2D 01 00") (hex "28 E6 AD 53")) (refuses 7 14)
     -- six bytes; two bytes; two capitals; at least four bytes
+    ∷ checks 4 3 (onieOf (hex "24 06 00 00 00 00 00 00 2A 02 00 00 2C 02 41 5A FD 04 FF 00 7F 80") (hex "D6 43 39 D8")) (Accepted 4)
     ∷ checks 4 3 (onieOf (hex "24 05 00 00 00 00 00") (hex "33 1D FB 84")) (refuses 7 11)
-    ∷ checks 4 3 (onieOf (hex "24 06 00 00 00 00 00 00") (hex "CE EF 7C 7F")) (Accepted 1)
     ∷ checks 4 3 (onieOf (hex "24 07 00 00 00 00 00 00 00") (hex "30 75 D8 F9")) (refuses 7 11)
     ∷ checks 4 3 (onieOf (hex "2A 01 00") (hex "D3 79 F5 2D")) (refuses 7 11)
-    ∷ checks 4 3 (onieOf (hex "2A 02 00 00") (hex "B7 22 39 B4")) (Accepted 1)
     ∷ checks 4 3 (onieOf (hex "2A 03 00 00 00") (hex "4F 2B FA EE")) (refuses 7 11)
     ∷ checks 4 3 (onieOf (hex "2C 01 41") (hex "2D 61 E7 7A")) (refuses 7 11)
-    ∷ checks 4 3 (onieOf (hex "2C 02 41 5A") (hex "23 F8 4E 97")) (Accepted 1)
     ∷ checks 4 3 (onieOf (hex "2C 02 40 41") (hex "8B 37 65 63")) (refuses 7 11)
     ∷ checks 4 3 (onieOf (hex "2C 02 41 5B") (hex "22 3A 24 A0")) (refuses 7 11)
     ∷ checks 4 3 (onieOf (hex "2C 03 41 41 41") (hex "1B 98 66 82")) (refuses 7 11)
     ∷ checks 4 3 (onieOf (hex "FD 03 00 00 1F") (hex "36 35 23 68")) (refuses 7 11)
-    ∷ checks 4 3 (onieOf (hex "FD 04 FF 00 7F 80") (hex "58 28 B4 38")) (Accepted 1)
     ∷ checks 4 3 (onieOf (hex "FD 00") (hex "F0 1D B3 D3")) (refuses 7 11)
     ∷ checks 4 3 (onieOf (hex "FD 04 00 00 00 00 FD 03 00 00 00") (hex "97 B2 69 DF")) (refuses 7 17)
     -- the date: 19 bytes, any digits

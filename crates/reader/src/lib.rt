@@ -4,7 +4,7 @@ ghost use Prim.Native.Nat.{ℕ, _+_, _-_, _≤_, _<_};
 ghost use mathlib.Core.List.{List};
 ghost use lib.ListN.{length};
 ghost use Rattle.layout.specs.Bytes.{part};
-ghost use Rattle.layout.specs.Editions.{shape};
+ghost use Rattle.layout.specs.Editions.{shape, kind};
 ghost use Rattle.layout.specs.Walk.{content};
 ghost use Rattle.layout.specs.Calls.{checkImage, keyPart, readingBy, entryOf, nth, entriesOf, entryAt, valueAt, stringIn, poolString, stringAt, bytesAt, verdict};
 ghost use Rattle.laws.specs.Passes.{walked, IsDone, rawsIn};
@@ -103,17 +103,17 @@ fn reading_at(format: Format, edition: u32, code: u32, image: &[u8], at: usize, 
     frames::reading_of(format, code, frames::part_of(image, at, n))
 }
 
-// The record of the entry at p with this frame and reading.
-fn entry_of(format: Format, edition: u32, p: usize, f: Frame, reading: Reading) -> Entry
+// The record of the entry at p with this frame, kind and reading. Both are given, so that this function is small and is compiled as a part of its callers.
+fn entry_of(format: Format, p: usize, f: Frame, as_kind: u32, reading: Reading) -> Entry
     requires { ⌜ (f .key ≤ f .val) × (p + f .val < 18446744073709551616) ⌝ }
-    ensures { λ r. ⌜ ((bs : List ℕ) → reading ≡ readingBy (shape format) edition (f .code) (content (record { bytes = bs; frame = f }) .value) → r ≡ entryOf (shape format) edition p (record { bytes = bs; frame = f })) ⌝ }
+    ensures { λ r. ⌜ ((edition : ℕ) (bs : List ℕ) → as_kind ≡ kind (shape format) edition (f .code) → reading ≡ readingBy (shape format) edition (f .code) (content (record { bytes = bs; frame = f }) .value) → r ≡ entryOf (shape format) edition p (record { bytes = bs; frame = f })) ⌝ }
 {
     let code = f.code;
     let key = key_part(format, p, f);
     let value = part_at(p + f.val, f.vlen);
     Entry {
         code: code,
-        kind: frames::kind_of(format, edition, code),
+        kind: as_kind,
         place: Place(p),
         key: key,
         value: value,
@@ -135,8 +135,9 @@ pub fn entry_here(
     let x = frames::next_frame(format, shut, image, p, end);
     match x {
         Next::Framed(f) => {
+            let as_kind = frames::kind_of(format, edition, f.code);
             let reading = reading_at(format, edition, f.code, image, p + f.val, f.vlen);
-            let entry = entry_of(format, edition, p, f, reading);
+            let entry = entry_of(format, p, f, as_kind, reading);
             Here::Stands(Standing {
                 entry: entry,
                 next: p + f.size,
@@ -163,8 +164,9 @@ fn nth_entry(
     let s = frames::find_frame(format, image, start, end, n);
     match s {
         Spot::At(f, p) => {
+            let as_kind = frames::kind_of(format, edition, f.code);
             let reading = reading_at(format, edition, f.code, image, p + f.val, f.vlen);
-            Lookup::Found(entry_of(format, edition, p, f, reading))
+            Lookup::Found(entry_of(format, p, f, as_kind, reading))
         }
         Spot::Nowhere => Lookup::Missing(refusal(13)),
     }

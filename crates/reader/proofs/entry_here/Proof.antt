@@ -22,11 +22,14 @@ next-frame-requires c κs = search needs
 enum-known-x : tie.Need-enum-known-x
 enum-known-x c = search needs
 
+kind-of-requires : tie.Need-kind-of-requires
+kind-of-requires c κs = search needs
+
 add-reading-at : tie.Need-add-reading-at
 add-reading-at c =
-    let a = c .before .before .before .before .before .before .args in
-    let f = c .before .before .x .given .0 .0 in
-    let w = read-lies (a .format) (a .shut) (now (a .image)) (a .p) (a .end) f (c .before .before .before .before .next-frame .ensures) (c .before .before .x .given .1) in
+    let a = c .before .before .before .before .before .before .before .args in
+    let f = c .before .before .before .x .given .0 .0 in
+    let w = read-lies (a .format) (a .shut) (now (a .image)) (a .p) (a .end) f (c .before .before .before .before .before .next-frame .ensures) (c .before .before .before .x .given .1) in
     omega (arith, w .lies .inside, w .lies .valueLast)
 
 reading-at-requires : tie.Need-reading-at-requires
@@ -34,17 +37,17 @@ reading-at-requires c κs = search needs
 
 entry-of-requires : tie.Need-entry-of-requires
 entry-of-requires c κs =
-    let a = c .before .before .before .before .before .before .before .args in
-    let f = c .before .before .before .x .given .0 .0 in
-    let w = read-lies (a .format) (a .shut) (now (a .image)) (a .p) (a .end) f (c .before .before .before .before .before .next-frame .ensures) (c .before .before .before .x .given .1) in
+    let a = c .before .before .before .before .before .before .before .before .args in
+    let f = c .before .before .before .before .x .given .0 .0 in
+    let w = read-lies (a .format) (a .shut) (now (a .image)) (a .p) (a .end) f (c .before .before .before .before .before .before .next-frame .ensures) (c .before .before .before .before .x .given .1) in
     (omega (arith, w .lies .keyIn), omega (arith, w .lies .inside, w .lies .valueLast))
 
-add-t12 : tie.Need-add-t12
-add-t12 c =
-    let a = c .before .before .before .before .before .before .before .before .before .args in
-    let f = c .before .before .before .before .before .x .given .0 .0 in
-    let w = read-lies (a .format) (a .shut) (now (a .image)) (a .p) (a .end) f (c .before .before .before .before .before .before .before .next-frame .ensures) (c .before .before .before .before .before .x .given .1) in
-    omega (arith, w .bound, c .before .before .before .before .before .before .before .before .before .fits)
+add-t13 : tie.Need-add-t13
+add-t13 c =
+    let a = c .before .before .before .before .before .before .before .before .before .before .args in
+    let f = c .before .before .before .before .before .before .x .given .0 .0 in
+    let w = read-lies (a .format) (a .shut) (now (a .image)) (a .p) (a .end) f (c .before .before .before .before .before .before .before .before .next-frame .ensures) (c .before .before .before .before .before .before .x .given .1) in
+    omega (arith, w .bound, c .before .before .before .before .before .before .before .before .before .before .fits)
 
 is-last-requires : tie.Need-is-last-requires
 is-last-requires c κs = search needs
@@ -58,13 +61,13 @@ enum-told-2 c = search needs
 returns : tie.Need-returns
 unfolding hereAt
 returns c =
-    let a = c .before .before .before .before .before .before .before .before .before .before .args in
-    let f = c .before .before .before .before .before .before .x .given .0 .0 in
-    let w = read-lies (a .format) (a .shut) (now (a .image)) (a .p) (a .end) f (c .before .before .before .before .before .before .before .before .next-frame .ensures) (c .before .before .before .before .before .before .x .given .1) in
+    let a = c .before .before .before .before .before .before .before .before .before .before .before .args in
+    let f = c .before .before .before .before .before .before .before .x .given .0 .0 in
+    let w = read-lies (a .format) (a .shut) (now (a .image)) (a .p) (a .end) f (c .before .before .before .before .before .before .before .before .before .next-frame .ensures) (c .before .before .before .before .before .before .before .x .given .1) in
     let i = now (a .image) in
-    let e : next (shape (a .format)) (a .shut) (part (a .p) (a .end - a .p) i) ≡ Framed f = sym (c .before .before .before .before .before .before .before .before .next-frame .ensures) ∙ c .before .before .before .before .before .before .x .given .1 in
+    let e : next (shape (a .format)) (a .shut) (part (a .p) (a .end - a .p) i) ≡ Framed f = sym (c .before .before .before .before .before .before .before .before .before .next-frame .ensures) ∙ c .before .before .before .before .before .before .before .x .given .1 in
     let read = c .before .before .before .reading-at .ensures ∙ ap (λ (v : List ℕ). readingBy (shape (a .format)) (a .edition) (f .code) v) (value-at i (a .p) f (w .lies)) in
-    rw (e, w .is, c .before .before .entry-of .ensures (part (a .p) (f .size) i) read, c .is-last .ensures)
+    rw (e, w .is, c .before .before .entry-of .ensures (a .edition) (part (a .p) (f .size) i) (c .before .before .before .before .before .kind-of .ensures) read, c .is-last .ensures)
 
 returns-2 : tie.Need-returns-2
 unfolding hereAt
@@ -86,10 +89,11 @@ entry-here-spec =
     (tie.spec
     next-frame-requires
     enum-known-x
+    kind-of-requires
     add-reading-at
     reading-at-requires
     entry-of-requires
-    add-t12
+    add-t13
     is-last-requires
     enum-told
     enum-told-2

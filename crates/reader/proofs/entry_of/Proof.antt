@@ -14,13 +14,10 @@ add-part-at c = search needs
 part-at-requires : tie.Need-part-at-requires
 part-at-requires c κs = search needs
 
-kind-of-requires : tie.Need-kind-of-requires
-kind-of-requires c κs = search needs
-
 returns : tie.Need-returns
 unfolding entryOf
-returns c bs q = rw (c .kind-of .ensures, c .before .part-at .ensures, c .before .before .before .key-part .ensures bs, q)
+returns c edition bs k q = rw (k, c .part-at .ensures, c .before .before .key-part .ensures bs, q)
 
 pub entry-of-spec : {M : Type 1} → statement M
 entry-of-spec =
-    tie.close (tie.spec key-part-requires add-part-at part-at-requires kind-of-requires returns)
+    tie.close (tie.spec key-part-requires add-part-at part-at-requires returns)

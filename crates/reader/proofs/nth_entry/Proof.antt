@@ -21,11 +21,14 @@ find-frame-requires c κs = search needs
 enum-known-s : tie.Need-enum-known-s
 enum-known-s c = search needs
 
+kind-of-requires : tie.Need-kind-of-requires
+kind-of-requires c κs = search needs
+
 add-reading-at : tie.Need-add-reading-at
 add-reading-at c =
-    let b = c .before .before .before .before .before .before in
+    let b = c .before .before .before .before .before .before .before in
     let a = b .args in
-    let found = nth-found (a .format) (a .edition) (now (a .image)) (a .start) (a .end) (a .n) (b .pre) _ _ (sym (c .before .before .before .before .find-frame .ensures) ∙ c .before .before .s .given .1) in
+    let found = nth-found (a .format) (a .edition) (now (a .image)) (a .start) (a .end) (a .n) (b .pre) _ _ (sym (c .before .before .before .before .before .find-frame .ensures) ∙ c .before .before .before .s .given .1) in
     omega (arith, found .0 .inside, found .0 .valueLast)
 
 reading-at-requires : tie.Need-reading-at-requires
@@ -33,9 +36,9 @@ reading-at-requires c κs = search needs
 
 entry-of-requires : tie.Need-entry-of-requires
 entry-of-requires c κs =
-    let b = c .before .before .before .before .before .before .before in
+    let b = c .before .before .before .before .before .before .before .before in
     let a = b .args in
-    let found = nth-found (a .format) (a .edition) (now (a .image)) (a .start) (a .end) (a .n) (b .pre) _ _ (sym (c .before .before .before .before .before .find-frame .ensures) ∙ c .before .before .before .s .given .1) in
+    let found = nth-found (a .format) (a .edition) (now (a .image)) (a .start) (a .end) (a .n) (b .pre) _ _ (sym (c .before .before .before .before .before .before .find-frame .ensures) ∙ c .before .before .before .before .s .given .1) in
     (omega (arith, found .0 .keyIn), omega (arith, found .0 .inside, found .0 .valueLast))
 
 enum-told : tie.Need-enum-told
@@ -46,12 +49,12 @@ refusal-requires c κs = search needs
 
 returns : tie.Need-returns
 returns c =
-    let b = c .before .before .before .before .before .before .before .before in
+    let b = c .before .before .before .before .before .before .before .before .before in
     let a = b .args in
-    let found = nth-found (a .format) (a .edition) (now (a .image)) (a .start) (a .end) (a .n) (b .pre) _ _ (sym (c .before .before .before .before .before .before .find-frame .ensures) ∙ c .before .before .before .before .s .given .1) in
-    let f = c .before .before .before .before .s .given .0 .0 in
+    let found = nth-found (a .format) (a .edition) (now (a .image)) (a .start) (a .end) (a .n) (b .pre) _ _ (sym (c .before .before .before .before .before .before .before .find-frame .ensures) ∙ c .before .before .before .before .before .s .given .1) in
+    let f = c .before .before .before .before .before .s .given .0 .0 in
     let read = c .before .reading-at .ensures ∙ ap (λ (v : List ℕ). readingBy (shape (a .format)) (a .edition) (f .code) v) (value-at _ _ _ (found .0)) in
-    ap (λ (x : Entry). Found x) (c .entry-of .ensures _ read) ∙ sym (found .1)
+    ap (λ (x : Entry). Found x) (c .entry-of .ensures (a .edition) _ (c .before .before .before .kind-of .ensures) read) ∙ sym (found .1)
 
 returns-2 : tie.Need-returns-2
 returns-2 c =
@@ -63,4 +66,4 @@ returns-2 c =
 pub nth-entry-spec : {M : Type 1} → statement M
 nth-entry-spec =
     tie.close
-    (tie.spec find-frame-requires enum-known-s add-reading-at reading-at-requires entry-of-requires enum-told refusal-requires returns returns-2)
+    (tie.spec find-frame-requires enum-known-s kind-of-requires add-reading-at reading-at-requires entry-of-requires enum-told refusal-requires returns returns-2)
