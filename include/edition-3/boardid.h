@@ -2,8 +2,8 @@
  * boardid.h, edition 3: reads, writes and edits board-identity EEPROM images.
  *
  * A program includes this header and links libboardid.a. The library is one binary for the headers
- * of every edition; which codes have a name is settled by the header that a program is compiled
- * with. What a name means is the same in every edition that has it.
+ * of every edition; which formats there are and which codes have a name is settled by the header
+ * that a program is compiled with. What a name means is the same in every edition that has it.
  *
  * An image is at most 65,536 bytes that the caller lends. The library opens no file, takes no
  * memory and keeps nothing between calls. It takes any bytes and any numbers: a call ends in an
@@ -18,7 +18,7 @@
  * entry is one whose code has a name in this edition; every other entry has kind 0, is read as
  * plain bytes and is kept as it is by every edit. Numbers that end in h are hexadecimal.
  *
- * docs/C-INTERFACE.md has the same calls with every layout to the byte and a worked example.
+ * docs/C-INTERFACE.md has the same calls with every layout to the byte and two worked examples.
  */
 #ifdef BOARDID_H
 #if BOARDID_EDITION != 3

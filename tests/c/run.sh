@@ -62,7 +62,7 @@ program() {
     "$cc" -std=c99 "${warnings[@]}" "${flags[@]}" "-Iinclude/edition-$2" -o "$1" "$3" "$lib" "${more[@]}"
 }
 
-# The old headers and the new one: the programs old_header-N, of each edition N, in a folder, on the same files.
+# The old headers and the new one: the programs old_header-N, of each edition N, in a folder, on the same files. Lists are compared with the newest edition's; what that one's are is old_header.c's to expect.
 old_and_new() {
     local folder=$1 editor reader list
     for editor in "${editions[@]}"; do

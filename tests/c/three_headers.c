@@ -15,8 +15,8 @@ int main(void)
     expect_number(kind_by_edition_1(2, vpd.bytes, vpd.length), 0, "VPD FEh in edition 1");
     expect_number(kind_by_edition_2(2, vpd.bytes, vpd.length), 766, "VPD FEh in edition 2");
     expect_number(kind_by_edition_3(2, vpd.bytes, vpd.length), 766, "VPD FEh in edition 3");
-    expect_number(kind_by_edition_1(4, onie.bytes, onie.length), 0, "ONIE 21h in edition 1");
-    expect_number(kind_by_edition_2(4, onie.bytes, onie.length), 0, "ONIE 21h in edition 2");
+    expect_number(kind_by_edition_1(4, onie.bytes, onie.length), 16 * 65536, "ONIE in edition 1: 16");
+    expect_number(kind_by_edition_2(4, onie.bytes, onie.length), 16 * 65536, "ONIE in edition 2: 16");
     expect_number(kind_by_edition_3(4, onie.bytes, onie.length), 1057, "ONIE 21h in edition 3");
     give_back(onie);
     give_back(vpd);

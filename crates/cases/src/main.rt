@@ -325,7 +325,7 @@ fn run_names(image: &[u8], fields: &[u8]) {
     );
 }
 
-// A switch's image: a name, an address, a number, and two vendor blocks.
+// A switch's image: a name, an address, a number, and two vendor extensions.
 fn is_switch(image: &[u8]) -> bool {
     has_count(4, 3, image, 5)
         & has_head(4, 3, image, 0, 0x21, 1057, &image[..0])

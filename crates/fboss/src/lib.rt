@@ -113,7 +113,7 @@ pub fn fboss_reading(code: u32, v: &[u8]) -> Reading
             }
             Reading::Number(wide(v[0]))
         }
-        17 | 18 | 19 | 20 => Reading::Addresses(parts::six_bytes(v), parts::two_bytes(v)),
+        17 | 18 | 19 | 20 => Reading::Addresses(parts::six_bytes(v), parts::count_bytes(v)),
         _ => Reading::Text,
     }
 }

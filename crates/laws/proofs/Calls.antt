@@ -1,8 +1,8 @@
 -- The calls by what reading an image gives: an accepted image as the laws have it, and one that is made so.
 -- Assumes nothing.
-use Prim.Native.Nat.{ℕ, zero, suc, _+_, _≤_, _<_}
-use mathlib.Core.Path.{_≡_, refl, ap, sym, _∙_}
-use mathlib.Core.List.{List, [], _∷_, _++_, map}
+use Prim.Native.Nat.{ℕ, _≤_}
+use mathlib.Core.Path.{_≡_, refl}
+use mathlib.Core.List.{List, [], map}
 use mathlib.Core.Bool.{Bool, true, false, _||_}
 use native.Mathlib.Omega.{arith}
 use lib.ListN.{length}
@@ -12,13 +12,12 @@ use Rattle.layout.specs.declared.Format.{Format}
 use Rattle.layout.specs.declared.Format.the-variants.{Fboss, Vpd, Tiny, Onie}
 use Rattle.layout.specs.declared.Chosen.{Chosen}
 use Rattle.layout.specs.declared.Chosen.the-variants.{Known, Unknown}
-use Rattle.layout.specs.declared.Checked.the-variants.{Accepted, Refused}
+use Rattle.layout.specs.declared.Checked.the-variants.{Accepted}
 use Rattle.layout.specs.Bytes.{if, refusal}
-use Rattle.layout.specs.Shape.{Shape}
 use Rattle.layout.specs.Editions.{shape, knownEdition, withEdition, chosen}
-use Rattle.layout.specs.Walk.{Raw, Content, content, flat}
+use Rattle.layout.specs.Walk.{Raw, content, flat}
 use Rattle.layout.specs.Read.{limit, complete, codesOf, Read, accepted, refused, bad, readAs, readChosen, readImage}
-use Rattle.layout.specs.Calls.{entriesOf, checkedBy, checkImage}
+use Rattle.layout.specs.Calls.{checkedBy, checkImage}
 use Rattle.layout.specs.Write.{refuse}
 use Rattle.layout.specs.Edit.{editRead, editChosen, editEntry}
 use Rattle.laws.specs.Grammar.{grammar, Lawful}

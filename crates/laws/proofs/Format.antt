@@ -1,14 +1,14 @@
 -- What is asked of a format: its definitions read exactly what its grammar writes, and write what it reads.
 -- Assumes nothing.
-use Prim.Native.Nat.{ℕ, zero, suc, _+_, _-_, _≤_, _<_}
+use Prim.Native.Nat.{ℕ, _+_, _-_, _≤_, _<_}
 use mathlib.Core.Path.{_≡_}
 use mathlib.Core.List.{List, [], _∷_, _++_}
 use mathlib.Core.Bool.{Bool, true, false}
 use lib.ListN.{length, drop}
 use Rattle.layout.specs.declared.Head.{Head}
-use Rattle.layout.specs.declared.Headed.the-variants.{Opens, Ends, Wrong}
-use Rattle.layout.specs.declared.Length.the-variants.{Reads, Fails}
-use Rattle.layout.specs.declared.Opened.the-variants.{Room, Closed}
+use Rattle.layout.specs.declared.Headed.the-variants.{Opens, Ends}
+use Rattle.layout.specs.declared.Length.the-variants.{Reads}
+use Rattle.layout.specs.declared.Opened.the-variants.{Room}
 use Rattle.layout.specs.Bytes.{part}
 use Rattle.layout.specs.Shape.{Shape, fine}
 use Rattle.layout.specs.Editions.{names}

@@ -1,7 +1,7 @@
 -- Whole images of any format that meets the laws: an image is read up to the rules exactly where it is a header, entries, a closing, the right check and a rest,
 -- and accepted exactly where its entries then are lawful and complete.
 -- Assumes nothing.
-use Prim.Native.Nat.{ℕ, zero, suc, _+_, _-_, _≤_, _<_}
+use Prim.Native.Nat.{ℕ, _+_, _-_, _≤_}
 use mathlib.Core.Path.{_≡_, refl, ap, sym, _∙_}
 use mathlib.Core.List.{List, [], _∷_, _++_, append-assoc, map}
 use mathlib.Core.Bool.{Bool, true, false}
@@ -17,10 +17,10 @@ use Rattle.layout.specs.declared.Opened.the-variants.{Room, Closed}
 use Rattle.layout.specs.Bytes.{if, sameBytes, part, refusal}
 use Rattle.layout.specs.Shape.{Shape, Judged, fine, faulty}
 use Rattle.layout.specs.Editions.{shape}
-use Rattle.layout.specs.Walk.{Raw, Content, content, flat, Walked, done, stop, walk}
-use Rattle.layout.specs.Read.{sealed, checkPlace, judge, complete, codesOf, Read, accepted, refused, bad, readComplete, readAs}
-use Rattle.laws.specs.Grammar.{Grammar, grammar, Lawful}
-use Rattle.laws.proofs.Format.{Laws, Holds, Wholly}
+use Rattle.layout.specs.Walk.{Raw, content, flat, Walked, done, stop, walk}
+use Rattle.layout.specs.Read.{sealed, checkPlace, judge, complete, codesOf, accepted, refused, bad, readComplete, readAs}
+use Rattle.laws.specs.Grammar.{grammar, Lawful}
+use Rattle.laws.proofs.Format.{Laws, Holds}
 use Rattle.laws.proofs.Frames.{part-between}
 use Rattle.laws.proofs.Walking.{Frames, walk-flat, walk-decode}
 use Rattle.laws.proofs.Judging.{judge-lawful, lawful-judge}

@@ -1,9 +1,9 @@
 -- A code that an edition names is a byte, and so is one that an image must have.
 -- Assumes nothing.
-use Prim.Native.Nat.{ℕ, _≤_, _<_}
+use Prim.Native.Nat.{ℕ, _<_}
 use mathlib.Core.Path.{_≡_, refl}
 use mathlib.Core.List.{List, [], _∷_}
-use mathlib.Core.Bool.{Bool, true, false, _&&_}
+use mathlib.Core.Bool.{Bool, true, false}
 use native.Mathlib.Omega.{arith}
 use lib.Dec.{leb}
 use borrow.Author.Tests.{leb-true}
@@ -15,7 +15,7 @@ use Rattle.layout.specs.Fboss.{fboss}
 use Rattle.layout.specs.Vpd.{vpd}
 use Rattle.layout.specs.Tiny.{tiny}
 use Rattle.layout.specs.Onie.{onie}
-use Rattle.layout.specs.Editions.{shape, from, never, sinceIn, reached, names}
+use Rattle.layout.specs.Editions.{shape, from, sinceIn, reached, names}
 use Rattle.laws.specs.Grammar.{Each, none, also}
 use Rattle.laws.proofs.Choices.{false-true, both}
 

@@ -5,19 +5,18 @@ use mathlib.Core.Path.{_≡_, refl, ap, sym, _∙_}
 use mathlib.Core.List.{List, [], _∷_, _++_, append-assoc}
 use mathlib.Core.Bool.{Bool, true, false, _&&_}
 use native.Mathlib.Omega.{arith}
-use lib.ListN.{length, getD, take, drop, length-append, length-drop, take-append-drop}
-use lib.Seq.{drop-cons, take-at, length-take-le}
+use lib.ListN.{length, getD, take, drop, length-append, take-append-drop}
+use lib.Seq.{drop-cons, take-at}
 use lib.Dec.{ltb, leb, eqb}
 use borrow.Author.Tests.{ltb-true, ltb-false, lt-ltb, le-ltb, leb-true, le-leb, eqb-true, eq-eqb}
-use Rattle.layout.specs.declared.Opened.{Opened}
 use Rattle.layout.specs.Bytes.{if, sameBytes, part}
-use Rattle.layout.specs.Shape.{Judged, fine, faulty, coded}
+use Rattle.layout.specs.Shape.{fine, faulty, coded}
 use Rattle.layout.specs.Onie.{onie, onieCoded, tlvInfo, declared, mostDeclared, onieOpened, onieFilled, onieCheck}
 use Rattle.layout.specs.Editions.{names, sinceIn}
 use Rattle.layout.specs.Write.{imageOf}
 use Rattle.laws.specs.Grammar.{onieGrammar}
 use Rattle.laws.proofs.Format.{Laws, Holds}
-use Rattle.laws.proofs.Choices.{either, both, false-true, OnOpened}
+use Rattle.laws.proofs.Choices.{either, both, OnOpened}
 use Rattle.laws.proofs.Lists.{byte-at}
 use Rattle.laws.proofs.Images.{same-true}
 use Rattle.laws.proofs.Coded.{Rooms, closing-ends, coded-laws}

@@ -13,7 +13,7 @@ use Rattle.layout.specs.declared.Format.the-variants.{Fboss, Vpd, Tiny, Onie}
 use Rattle.layout.specs.declared.Opened.{Opened}
 use Rattle.layout.specs.declared.Opened.the-variants.{Room, Closed}
 use Rattle.layout.specs.Bytes.{if}
-use Rattle.layout.specs.Shape.{Shape, fine, faulty}
+use Rattle.layout.specs.Shape.{fine, faulty}
 use Rattle.layout.specs.Fboss.{fboss, fbossOpened}
 use Rattle.layout.specs.Vpd.{vpd}
 use Rattle.layout.specs.Tiny.{tiny, tinyOpened}

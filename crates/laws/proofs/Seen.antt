@@ -19,7 +19,7 @@ use Rattle.layout.specs.Read.{seenBefore}
 use Rattle.laws.specs.Marked.{marked}
 use Rattle.laws.proofs.Marks.{Marks}
 
-and-true : (b : Bool) → b && true ≡ b
+pub and-true : (b : Bool) → b && true ≡ b
 and-true true = refl
 and-true false = refl
 

@@ -1,18 +1,18 @@
 -- What is written: new entries are entries of the grammar, and fields that are judged fine make lawful ones.
 -- Assumes nothing.
-use Prim.Native.Nat.{ℕ, zero, suc, _+_, _-_, _≤_, _<_}
-use mathlib.Core.Path.{_≡_, refl, ap, ap₂, sym, _∙_}
+use Prim.Native.Nat.{ℕ, _+_, _-_, _≤_}
+use mathlib.Core.Path.{_≡_, refl, ap, ap₂, sym}
 use mathlib.Core.List.{List, [], _∷_, _++_, append-assoc, map}
 use mathlib.Core.Bool.{Bool, true, false, _&&_}
 use native.Mathlib.Omega.{arith}
 use lib.ListN.{length, length-append}
 use Rattle.layout.specs.declared.Field.{Field}
 use Rattle.layout.specs.Bytes.{if}
-use Rattle.layout.specs.Shape.{Shape, Label, Judged, fine, faulty}
+use Rattle.layout.specs.Shape.{Shape, Label, fine}
 use Rattle.layout.specs.Editions.{names}
 use Rattle.layout.specs.Walk.{Raw, Content, content, labelOf, flat}
-use Rattle.layout.specs.Read.{limit, same, seenBefore, readerRule, orElse, complete, codesOf}
-use Rattle.layout.specs.Write.{fieldKey, partsInside, fieldContent, writerRule, fieldFault, judgeFields, contentsOf, contentCodes, entryBytes, entriesBytes, body, imageOf}
+use Rattle.layout.specs.Read.{limit, same, seenBefore, readerRule}
+use Rattle.layout.specs.Write.{fieldKey, partsInside, fieldContent, writerRule, fieldFault, judgeFields, contentsOf, entryBytes, entriesBytes, imageOf}
 use Rattle.laws.specs.Grammar.{Grammar, Each, none, also, Lawful, noMore, andThen}
 use Rattle.laws.proofs.Format.{Laws}
 use Rattle.laws.proofs.Frames.{IsRaw, frameFrom, raw-content}

@@ -3,7 +3,7 @@
 -- have, and that entries stand one after another without gaps. Shared with them: the header, the check and what may follow an entry (`Shape`), the names and rules (`names`, `readerRule`, `same`), what is required, and the limit.
 -- Those are said apart in crates/promises/specs: Names, Rules, Written (header and check as they are written), Writing (what comes again, what is required), Asked (the limit).
 -- Assumes nothing.
-use Prim.Native.Nat.{ℕ, zero, suc, _+_, _*_, _-_, _/_, _≤_, _<_}
+use Prim.Native.Nat.{ℕ, suc, _+_, _*_, _-_, _/_, _≤_, _<_}
 use mathlib.Core.Path.{_≡_}
 use mathlib.Core.List.{List, [], _∷_, _++_}
 use mathlib.Core.Logic.{_⊎_}

@@ -14,7 +14,7 @@ use Rattle.layout.specs.declared.Length.{Length}
 use Rattle.layout.specs.declared.Length.the-variants.{Reads}
 use Rattle.layout.specs.declared.Identity.{Identity}
 use Rattle.layout.specs.declared.Reading.{Reading}
-use Rattle.layout.specs.declared.Reading.the-variants.{Plain}
+use Rattle.layout.specs.declared.Reading.the-variants.{Plain, Number}
 use Rattle.layout.specs.declared.Entry.{Entry}
 use Rattle.layout.specs.declared.Field.{Field}
 use Rattle.layout.specs.declared.Refusal.{Refusal}
@@ -146,6 +146,14 @@ bare c k p v n reading = record { code = c; kind = k; place = place p; key = par
 -- the record of a VPD entry: code, kind and place, the key's place and length, the value's
 abbrev pub keyed : ℕ → ℕ → ℕ → ℕ → ℕ → ℕ → ℕ → Entry
 keyed c k p a m v n = record { code = c; kind = k; place = place p; key = partAt a m; value = partAt v n; reading = Plain }
+
+-- a record that no image has
+abbrev pub old : Entry
+old = bare 9 8 7 6 5 (Number 4)
+
+-- what an entry without a key says
+abbrev pub sayingBare : ℕ → List ℕ → Content
+sayingBare c v = record { code = c; key = []; value = v }
 
 -- any record, to be written over
 abbrev pub blank : Entry

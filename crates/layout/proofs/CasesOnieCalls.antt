@@ -16,7 +16,7 @@ use Rattle.layout.specs.Walk.{Content}
 use Rattle.layout.specs.Write.{writeImage}
 use Rattle.layout.specs.Edit.{editEntry}
 use Rattle.layout.proofs.Cases.{text, hex, run, headed, onieAs, onieOf, noEntries, bare, field, keyedField, refuses, misses, nowhere, unwritten}
-use Rattle.layout.proofs.Cases.{madeNumber, checking}
+use Rattle.layout.proofs.Cases.{old, sayingBare, madeNumber, checking}
 use Rattle.layout.proofs.Cases.{Case, checks, numbers, sweeps, lists, fills, entries, finds, values, strings, steps}
 use Rattle.layout.proofs.Cases.{writes, edits, unwrites, unedits, rounds, given, wanted}
 use Rattle.layout.proofs.CasesOnie.{board, block, longest, date}
@@ -60,10 +60,7 @@ boardRecords =
     ∷ bare 0xFD 1277 28 30 4 Plain
     ∷ []
 
--- two records that no image has
-abbrev pub old : Entry
-old = bare 9 8 7 6 5 (Number 4)
-
+-- another
 abbrev pub older : Entry
 older = bare 1 2 3 4 5 Text
 
@@ -82,10 +79,6 @@ writingLong n room = madeNumber (writeImage 4 3 (longFields n) longValues (repli
 -- the number of an edit of the last entry of the longest image to this value, into so many bytes, 0 where nothing is refused
 abbrev pub editingLong : List ℕ → ℕ → ℕ
 editingLong v room = madeNumber (editEntry 4 3 longest 7 v (replicate room 0) .answer)
-
--- what an entry says
-abbrev pub saying : ℕ → List ℕ → Content
-saying c v = record { code = c; key = []; value = v }
 
 abbrev pub cases : List Case
 cases =
@@ -167,7 +160,7 @@ cases =
     ∷ writes 4 3 (field 0x2C 0 2 ∷ keyedField 0x21 99 99 2 3 ∷ field 0xFD 1 4 ∷ field 0x2A 3 2 ∷ field 0xFD 0 5 ∷ []) (text "CZabc") (replicate 44 7) (Wrote 43)
     (onieOf (hex "2C 02 43 5A 21 03 61 62 63 FD 04 5A 61 62 63 2A 02 62 63 FD 05 43 5A 61 62 63") (hex "B1 B5 34 5D") ++ hex "FF")
     ∷ rounds 4 3 (field 0x25 0 19 ∷ field 0x24 3 6 ∷ field 0x2D 19 0 ∷ []) date 60
-    (saying 0x25 date ∷ saying 0x24 (text "31/202") ∷ saying 0x2D [] ∷ [])
+    (sayingBare 0x25 date ∷ sayingBare 0x24 (text "31/202") ∷ sayingBare 0x2D [] ∷ [])
     -- a value of 255 bytes: the declared length is 263. One more is 7
     ∷ writes 4 3 (field 0xFD 0 255 ∷ []) ((hex "E2 96 80 93") ++ replicate 251 0) (replicate 275 7) (Wrote 274) (onieOf (block (hex "E2 96 80 93") 255) (hex "72 AD F7 D5") ++ hex "FF")
     ∷ unwrites 4 3 (field 0x21 0 255 ∷ []) (replicate 255 0x41) 273 (refusal 12 0)

@@ -8,7 +8,7 @@ use Rattle.layout.specs.declared.Field.{Field}
 use Rattle.layout.specs.declared.Made.the-variants.{Wrote}
 use Rattle.layout.specs.Bytes.{refusal}
 use Rattle.layout.specs.Walk.{Content}
-use Rattle.layout.proofs.Cases.{text, hex, fbossOf, five, field, keyedField, unwritten, writingLong}
+use Rattle.layout.proofs.Cases.{text, hex, fbossOf, five, field, keyedField, sayingBare, unwritten, writingLong}
 use Rattle.layout.proofs.Cases.{Case, numbers, lies, writes, unwrites, rounds, given, wanted}
 
 -- "A", "B", 5, 0 and 1: the values of the five required FBOSS fields
@@ -18,10 +18,6 @@ lent = hex "41 42 05 00 01"
 -- the five required FBOSS fields, in order
 abbrev pub fiveFields : List Field
 fiveFields = field 1 0 1 ∷ field 8 2 1 ∷ field 9 3 1 ∷ field 10 4 1 ∷ field 11 1 1 ∷ []
-
--- what an entry without a key says
-abbrev pub saying : ℕ → List ℕ → Content
-saying c v = record { code = c; key = []; value = v }
 
 -- the same with a key
 abbrev pub keyedSaying : ℕ → List ℕ → List ℕ → Content
@@ -148,12 +144,12 @@ cases =
     ∷ unwrites 2 3 (keyedField 0x01 0 8 8 2 ∷ []) (text "lab.rackR2") 30 (refusal 7 0)
     -- what is written reads back
     ∷ rounds 1 2 (field 12 0 2 ∷ fiveFields ++ (field 20 5 8 ∷ [])) (lent ++ text "01234567") 60
-    (saying 12 (text "AB") ∷ saying 1 (text "A") ∷ saying 8 (hex "05") ∷ saying 9 (hex "00") ∷ saying 10 (hex "01") ∷ saying 11 (text "B")
-    ∷ saying 20 (text "01234567") ∷ [])
+    (sayingBare 12 (text "AB") ∷ sayingBare 1 (text "A") ∷ sayingBare 8 (hex "05") ∷ sayingBare 9 (hex "00") ∷ sayingBare 10 (hex "01") ∷ sayingBare 11 (text "B")
+    ∷ sayingBare 20 (text "01234567") ∷ [])
     ∷ rounds 2 2 (keyedField 0x01 0 1 2 3 ∷ keyedField 0xFE 0 0 0 4 ∷ []) lent 16
-    (keyedSaying 0x01 (text "A") (hex "05 00 01") ∷ saying 0xFE (hex "41 42 05 00") ∷ [])
+    (keyedSaying 0x01 (text "A") (hex "05 00 01") ∷ sayingBare 0xFE (hex "41 42 05 00") ∷ [])
     ∷ rounds 3 2 (keyedField 0x80 9 9 5 8 ∷ field 0x01 0 2 ∷ []) (hex "41 42 00 00 00 00 01 02 03 04 05 06 07") 30
-    (saying 0x80 (hex "00 01 02 03 04 05 06 07") ∷ saying 0x01 (text "AB") ∷ [])
+    (sayingBare 0x80 (hex "00 01 02 03 04 05 06 07") ∷ sayingBare 0x01 (text "AB") ∷ [])
     ∷ []
 
 pub every-case : map given cases ≡ map wanted cases

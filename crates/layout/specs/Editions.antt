@@ -1,8 +1,8 @@
--- Formats, editions, names and kinds (01, "Editions and kinds").
+-- Formats, editions, names and kinds (01, "Editions and kinds"; 02, "ONIE images and edition 3").
 -- Assumes nothing.
-use Prim.Native.Nat.{ℕ, zero, suc, _+_, _*_}
+use Prim.Native.Nat.{ℕ, _+_, _*_}
 use mathlib.Core.List.{List, [], _∷_}
-use mathlib.Core.Bool.{Bool, true, false}
+use mathlib.Core.Bool.{Bool, false}
 use lib.Dec.{leb, eqb}
 use Rattle.layout.specs.declared.Format.{Format}
 use Rattle.layout.specs.declared.Format.the-variants.{Fboss, Vpd, Tiny, Onie}

@@ -11,7 +11,7 @@ use Rattle.layout.specs.declared.Opened.the-variants.{Room, Closed}
 use Rattle.layout.specs.declared.Reading.{Reading}
 use Rattle.layout.specs.declared.Reading.the-variants.{Plain, Text, Number, Addresses}
 use Rattle.layout.specs.Bytes.{if, between, all, oneOf, sameBytes, part, highFirst, refusal}
-use Rattle.layout.specs.Shape.{Shape, Label, naming, fine, faulty, Judged, Coded, coded}
+use Rattle.layout.specs.Shape.{Shape, naming, fine, faulty, Judged, Coded, coded}
 use Rattle.layout.specs.Fboss.{printable, digit}
 
 -- the eight bytes TlvInfo and a zero, which every header begins with
@@ -26,7 +26,8 @@ declared s = getD s 9 0 * 256 + getD s 10 0
 abbrev pub mostDeclared : ℕ
 mostDeclared = 2048
 
--- TlvInfo and a zero, 01h, the declared length, which ends the room of the entries. A length has one form in bytes: the low one is below 256
+-- TlvInfo and a zero, 01h, the declared length, which ends the room of the entries. The last test holds of every byte: definitions speak of numbers, and two of them are
+-- to say a length in one way only
 unfoldable pub onieOpened : List ℕ → Opened
 onieOpened s =
     if (ltb (length s) 11) (λ _. Closed (refusal 3 0))
@@ -50,12 +51,16 @@ fourBytes n = (n / 16777216) ∷ (n / 65536 % 256) ∷ (n / 256 % 256) ∷ (n % 
 unfoldable pub onieCheck : List ℕ → List ℕ
 onieCheck s = fourBytes (check32Of (s ++ (0xFE ∷ 0x04 ∷ [])))
 
--- bytes of a form: a 0 of the form stands for any digit, every other byte for itself
+-- a byte fits a byte of a form: a 0 of the form stands for any digit, every other byte for itself
+abbrev pub fitsForm : ℕ → ℕ → Bool
+fitsForm x b = if (eqb x 0x30) (λ _. digit b) (λ _. eqb b x)
+
+-- bytes of a form: as many, and each fits
 unfoldable pub formed : List ℕ → List ℕ → Bool
 formed [] [] = true
 formed [] (b ∷ bs) = false
 formed (x ∷ xs) [] = false
-formed (x ∷ xs) (b ∷ bs) = if (eqb x 0x30) (λ _. digit b) (λ _. eqb b x) && formed xs bs
+formed (x ∷ xs) (b ∷ bs) = fitsForm x b && formed xs bs
 
 -- 00/00/0000 00:00:00
 abbrev pub dateForm : List ℕ

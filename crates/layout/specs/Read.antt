@@ -96,7 +96,7 @@ abbrev pub readOpened : Opened → Format → ℕ → List ℕ → Read
 readOpened (Room start end) f e img = readWalked (walk (shape f) false start (part start (end - start) img)) f e img start end
 readOpened (Closed r) f e img = refused r
 
--- an image of a known format, with a known edition
+-- an image of a known format, with an edition that has it
 unfoldable pub readAs : Format → ℕ → List ℕ → Read
 readAs f e img = readOpened (shape f .opened img) f e img
 

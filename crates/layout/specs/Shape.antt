@@ -1,6 +1,6 @@
 -- What a format is, and the frame of one entry, for any format.
 -- Assumes nothing.
-use Prim.Native.Nat.{ℕ, zero, suc, _+_}
+use Prim.Native.Nat.{ℕ, _+_}
 use mathlib.Core.List.{List, [], _∷_}
 use mathlib.Core.Bool.{Bool, true, false}
 use lib.ListN.{length, getD}
@@ -37,7 +37,7 @@ pub data Judged : Type 0 where
   faulty : ℕ → ℕ → Judged
 
 pub record Shape : Type 0 where
-  -- the format's number in 01
+  -- the format's number (01; 4 in 02)
   pub number : ℕ
   -- the first edition that has the format
   pub edition : ℕ
@@ -138,6 +138,7 @@ pub record Coded : Type 0 where
   pub twice : Label → Label → Bool
   pub required : List ℕ
 
+-- the shape of such a format: what all of them share, and what K says
 abbrev pub coded : Coded → Shape
 coded K =
     record {

@@ -7,8 +7,7 @@ ghost use lib.Dec.{eqb};
 ghost use lib.ListN.{length, getD};
 ghost use Rattle.layout.specs.Bytes.{if, all, oneOf, sameBytes, part};
 ghost use Rattle.layout.specs.Shape.{fine, faulty};
-ghost use Rattle.layout.specs.Fboss.{digit};
-ghost use Rattle.layout.specs.Onie.{onie, tlvInfo, declared, onieOpened, onieFilled, formed, dateForm, capital, onieRule, onieReading};
+ghost use Rattle.layout.specs.Onie.{onie, tlvInfo, declared, onieOpened, onieFilled, fitsForm, formed, dateForm, capital, onieRule, onieReading};
 ghost use Rattle.layout.specs.Read.{sealed};
 use layout::Opened;
 use layout::Reading;
@@ -93,7 +92,7 @@ pub fn is_filled(p: usize, end: usize) -> bool
 
 // Whether a byte fits a byte of a form.
 fn fits_form(x: u8, b: u8) -> bool
-    ensures { λ r. ⌜ r ≡ if (eqb x 0x30) (λ _. digit b) (λ _. eqb b x) ⌝ }
+    ensures { λ r. ⌜ r ≡ fitsForm x b ⌝ }
 {
     if x == 0x30 {
         return (0x30 <= b) & (b <= 0x39);
@@ -118,6 +117,7 @@ fn is_formed(form: &[u8], v: &[u8]) -> bool
     true
 }
 
+// MM/DD/YYYY HH:NN:SS, any digits.
 fn date_rule(v: &[u8]) -> bool
     ensures { λ r. ⌜ r ≡ formed dateForm (now (v .entry)) ⌝ }
 {
@@ -157,6 +157,7 @@ fn country_rule(v: &[u8]) -> bool
     parts::all_between(v, 0x41, 0x5A)
 }
 
+// Whether the value of a named entry meets its rule.
 pub fn onie_rule(code: u32, v: &[u8]) -> bool
     ensures { λ r. ⌜ r ≡ onieRule code (now (v .entry)) ⌝ }
 {
@@ -181,6 +182,7 @@ pub fn onie_rule(code: u32, v: &[u8]) -> bool
     true
 }
 
+// What the value of a named entry means.
 pub fn onie_reading(code: u32, v: &[u8]) -> Reading
     ensures { λ r. ⌜ r ≡ onieReading code (now (v .entry)) ⌝ }
 {

@@ -336,8 +336,8 @@ fn finish_onie(out: &mut [u8], n: usize)
     let magic = onie::TLV_INFO;
     copy_at(out, 0, &magic);
     let total = n + 6;
-    let version = [0x01, (total / 256) as u8, (total % 256) as u8];
-    copy_at(out, 8, &version);
+    let version_and_length = [0x01, (total / 256) as u8, (total % 256) as u8];
+    copy_at(out, 8, &version_and_length);
     let at = n + 11;
     let c = crc::check32_closed(&out[..at], 0xFE, 0x04);
     let end = [

@@ -128,7 +128,7 @@ pub fn first_two(s: &[u8]) -> u32
 }
 
 // The two bytes after the first six as one number, high byte first: the count of an address block.
-pub fn two_bytes(s: &[u8]) -> u64
+pub fn count_bytes(s: &[u8]) -> u64
     ensures { λ r. ⌜ r ≡ highFirst 0 (part 6 2 (now (s .entry))) ⌝ }
 {
     high_first(s, 6, 8)

@@ -16,7 +16,7 @@ use Rattle.layout.specs.Bytes.{if, between, all, oneOf}
 use Rattle.layout.specs.Fboss.{fboss, fbossRule, dateRule, digit, twoDigits, printable}
 use Rattle.layout.specs.Vpd.{vpd, vpdReaderKey, vpdRule, keyByte}
 use Rattle.layout.specs.Tiny.{tiny, tinyRule, tinyTakes, revisionRule, batch}
-use Rattle.layout.specs.Onie.{onie, onieRule, formed, dateForm, capital}
+use Rattle.layout.specs.Onie.{fitsForm, onie, onieRule, formed, dateForm, capital}
 use Rattle.layout.specs.Editions.{shape}
 use Rattle.layout.specs.Walk.{Content}
 use Rattle.layout.specs.Read.{readerRule}
@@ -124,7 +124,7 @@ of-form [] P h [] q = h
 of-form [] P h (b ∷ bs) q = false-true q
 of-form (x ∷ xs) P h [] q = false-true q
 of-form (x ∷ xs) P h (b ∷ bs) q =
-    let w = both (if (eqb x 0x30) (λ _. digit b) (λ _. eqb b x)) (formed xs bs) q in
+    let w = both (fitsForm x b) (formed xs bs) q in
     of-form xs (λ bs. P (b ∷ bs)) (of-byte (eqb x 0x30) x b (λ b. OfForm xs (λ bs. P (b ∷ bs))) h (w .0)) bs (w .1)
 
 -- so many digits are a form of that many zeros

@@ -20,8 +20,8 @@ wide-requires c κs = search needs
 six-bytes-requires : tie.Need-six-bytes-requires
 six-bytes-requires c κs = search needs
 
-two-bytes-requires : tie.Need-two-bytes-requires
-two-bytes-requires c κs = search needs
+count-bytes-requires : tie.Need-count-bytes-requires
+count-bytes-requires c κs = search needs
 
 returns-2 : tie.Need-returns-2
 unfolding fbossReading
@@ -51,7 +51,7 @@ fboss-reading-spec =
     shared-slice-read-wide
     wide-requires
     six-bytes-requires
-    two-bytes-requires
+    count-bytes-requires
     returns-2
     returns-3
     returns-4

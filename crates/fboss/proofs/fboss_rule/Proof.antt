@@ -7,8 +7,7 @@ use borrow.Author.Needs.{needs}
 use Rattle.layout.specs.Bytes.{oneOf}
 use Rattle.layout.specs.Fboss.{fbossRule}
 use Rattle.parts.proofs.Tests.{tests}
-use Rattle.parts.proofs.Ranges.{among}
-use Rattle.fboss.proofs.Rules.{ruling, beyond}
+use Rattle.fboss.proofs.Rules.{among, beyond}
 use Rattle.fboss.proofs.fboss_rule.Statement.{statement}
 use Rattle.fboss.proofs.fboss_rule.Tie as tie
 
@@ -16,7 +15,7 @@ returns : tie.Need-returns
 unfolding fbossRule oneOf
 returns c =
     let a = c .before .before .before .args in
-    among (ruling (now (a .v))) _ (a .code) 3 1 (omega arith) (omega arith) (search tests)
+    among _ (a .code) (now (a .v)) 3 1 (omega arith) (omega arith) (search tests)
 
 all-printable-requires : tie.Need-all-printable-requires
 all-printable-requires c κs = search needs
@@ -28,7 +27,7 @@ returns-2 : tie.Need-returns-2
 unfolding fbossRule oneOf
 returns-2 c =
     let a = c .before .before .before .before .before .before .args in
-    among (ruling (now (a .v))) _ (a .code) 4 2 (omega arith) (omega arith) (search tests)
+    among _ (a .code) (now (a .v)) 4 2 (omega arith) (omega arith) (search tests)
 
 all-printable-requires-2 : tie.Need-all-printable-requires-2
 all-printable-requires-2 c κs = search needs
@@ -40,46 +39,46 @@ returns-3 : tie.Need-returns-3
 unfolding fbossRule oneOf
 returns-3 c =
     let a = c .before .before .before .before .args in
-    among (ruling (now (a .v))) _ (a .code) 3 1 (omega arith) (omega arith) (search tests)
+    among _ (a .code) (now (a .v)) 3 1 (omega arith) (omega arith) (search tests)
 
 returns-4 : tie.Need-returns-4
 unfolding fbossRule oneOf
 returns-4 c =
     let a = c .before .before .before .args in
-    among (ruling (now (a .v))) _ (a .code) 13 1 (omega arith) (omega arith) (search)
+    among _ (a .code) (now (a .v)) 13 1 (omega arith) (omega arith) (search)
 
 returns-5 : tie.Need-returns-5
 unfolding fbossRule oneOf
 returns-5 c =
     let a = c .before .before .before .before .before .before .before .args in
-    among (ruling (now (a .v))) _ (a .code) 4 2 (omega arith) (omega arith) (search tests)
+    among _ (a .code) (now (a .v)) 4 2 (omega arith) (omega arith) (search tests)
 
 returns-6 : tie.Need-returns-6
 unfolding fbossRule oneOf
 returns-6 c =
     let a = c .before .before .before .before .before .before .before .args in
-    among (ruling (now (a .v))) _ (a .code) 8 3 (omega arith) (omega arith) (search)
+    among _ (a .code) (now (a .v)) 8 3 (omega arith) (omega arith) (search)
 
 returns-7 : tie.Need-returns-7
 unfolding fbossRule oneOf
 returns-7 c =
     let a = c .before .before .before .before .before .before .before .before .before .args in
-    among (ruling (now (a .v))) _ (a .code) 17 4 (omega arith) (omega arith) (search)
+    among _ (a .code) (now (a .v)) 17 4 (omega arith) (omega arith) (search)
 
 returns-8 : tie.Need-returns-8
 unfolding fbossRule oneOf
 returns-8 c =
     let a = c .before .before .before .before .before .args in
-    ⊎-elim (λ w. among (ruling (now (a .v))) _ (a .code) 1 2 (omega arith) (omega arith) (search))
-    (⊎-elim (λ w. among (ruling (now (a .v))) _ (a .code) 6 2 (omega arith) (omega arith) (search))
-    (λ w. among (ruling (now (a .v))) _ (a .code) 11 6 (omega arith) (omega arith) (search, (search, (λ e. absurd (omega arith), search)))))
+    ⊎-elim (λ w. among _ (a .code) (now (a .v)) 1 2 (omega arith) (omega arith) (search))
+    (⊎-elim (λ w. among _ (a .code) (now (a .v)) 6 2 (omega arith) (omega arith) (search))
+    (λ w. among _ (a .code) (now (a .v)) 11 6 (omega arith) (omega arith) (search, (search, (λ e. absurd (omega arith), search)))))
     (c .before .if3 .came)
 
 returns-9 : tie.Need-returns-9
 unfolding fbossRule oneOf
 returns-9 c =
     let a = c .before .before .before .args in
-    among (ruling (now (a .v))) _ (a .code) 0 1 (omega arith) (omega arith) (search)
+    among _ (a .code) (now (a .v)) 0 1 (omega arith) (omega arith) (search)
 
 returns-10 : tie.Need-returns-10
 returns-10 c = beyond _ _ (c .if9 .left)

@@ -5,7 +5,6 @@ use Rattle.layout.specs.Fboss.{fboss}
 use Rattle.layout.specs.Vpd.{vpd}
 use Rattle.layout.specs.Tiny.{tiny}
 use Rattle.layout.specs.Onie.{onie}
-use native.Mathlib.Omega.{arith}
 use Rattle.frames.proofs.first_edition.Statement.{statement}
 use Rattle.frames.proofs.first_edition.Tie as tie
 

@@ -5,16 +5,10 @@ use Rattle.layout.specs.Fboss.{fboss}
 use Rattle.layout.specs.Vpd.{vpd}
 use Rattle.layout.specs.Tiny.{tiny}
 use Rattle.layout.specs.Onie.{onie}
-use mathlib.Core.Path.{_≡_, refl, ap}
-use mathlib.Core.Bool.{Bool, true, false, not, _&&_}
-use Prim.Native.Nat.{ℕ}
 use Rattle.laws.specs.Marked.{allMarked}
+use Rattle.laws.proofs.Seen.{and-true}
 use Rattle.frames.proofs.is_complete.Statement.{statement}
 use Rattle.frames.proofs.is_complete.Tie as tie
-
-and-true : (b : Bool) → b && true ≡ b
-and-true true = refl
-and-true false = refl
 
 enum-told : tie.Need-enum-told
 enum-told c = search needs

@@ -1,6 +1,5 @@
 -- `onie::fits_form` meets its contract: one test for a digit, and one for any other byte.
 -- Assumes nothing.
-use borrow.Author.Needs.{needs}
 use Rattle.parts.proofs.Tests.{tests}
 use Rattle.onie.proofs.fits_form.Statement.{statement}
 use Rattle.onie.proofs.fits_form.Tie as tie
