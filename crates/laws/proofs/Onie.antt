@@ -95,14 +95,15 @@ rooms =
       sound = λ image entries rest start end o room closes long filled.
           let r = rw o at (declares image) in
           let D = 11 + declared image - 11 in
+          let beyond = drop D (drop 11 image) in
           let six : length entries + 6 ≡ declared image = omega (arith, filled-six (start + length entries) end filled, r .starts, r .ends) in
           let high : (length entries + 6) / 256 ≡ getD image 9 0 = omega (arith, r .low) in
           let low : (length entries + 6) % 256 ≡ getD image 10 0 = omega (arith, r .low) in
           let front : take D (drop 11 image) ≡ entries ++ rest = rw (r .starts, r .ends) at room in
-          let after : drop 11 image ≡ entries ++ (rest ++ drop D (drop 11 image))
-          = sym (take-append-drop D (drop 11 image)) ∙ ap (λ (l : List ℕ). l ++ drop D (drop 11 image)) front ∙ append-assoc entries rest (drop D (drop 11 image)) in
-          let closed : rest ++ drop D (drop 11 image) ≡ 0xFE ∷ 0x04 ∷ (drop 2 rest ++ drop D (drop 11 image)) = ap (λ (l : List ℕ). l ++ drop D (drop 11 image)) closes in
-          (r .starts, record { closing = 0xFE ∷ 0x04 ∷ []; rest = drop 2 rest ++ drop D (drop 11 image); closes = refl; takes = omega (arith, r .most); is = cc (r .is, after, closed, high, low) });
+          let after : drop 11 image ≡ entries ++ (rest ++ beyond)
+          = sym (take-append-beyond) ∙ ap (λ (l : List ℕ). l ++ beyond) front ∙ append-assoc entries rest (beyond) in
+          let closed : rest ++ beyond ≡ 0xFE ∷ 0x04 ∷ (drop 2 rest ++ beyond) = ap (λ (l : List ℕ). l ++ beyond) closes in
+          (r .starts, record { closing = 0xFE ∷ 0x04 ∷ []; rest = drop 2 rest ++ beyond; closes = refl; takes = omega (arith, r .most); is = cc (r .is, after, closed, high, low) });
     }
 
 pub onie-laws : Laws onie onieGrammar

@@ -42,7 +42,9 @@ closed-requires-4 : tie.Need-closed-requires-4
 closed-requires-4 c κs = search needs
 
 returns-4 : tie.Need-returns-4
-returns-4 c = c .closed4 .ensures ∙ sym (above _ (c .before .before .before .before .before .before .before .if1 .left) (sym (c .before .before .before .before .before .before .is-onie .ensures) ∙ not-false _ (c .before .before .before .before .before .if2 .left)) (c .before .before .before .if3 .left) (omega (arith, c .before .before .declared-length .ensures .0, c .before .if4 .taken)))
+returns-4 c =
+    let n = c .before .before .declared-length .ensures in
+    c .closed4 .ensures ∙ sym (above _ (c .before .before .before .before .before .before .before .if1 .left) (sym (c .before .before .before .before .before .before .is-onie .ensures) ∙ not-false _ (c .before .before .before .before .before .if2 .left)) (c .before .before .before .if3 .left) (omega (arith, n .0, c .before .if4 .taken)))
 
 add-if5 : tie.Need-add-if5
 add-if5 c = search needs
@@ -51,13 +53,17 @@ closed-requires-5 : tie.Need-closed-requires-5
 closed-requires-5 c κs = search needs
 
 returns-5 : tie.Need-returns-5
-returns-5 c = c .closed5 .ensures ∙ sym (past _ (c .before .before .before .before .before .before .before .before .if1 .left) (sym (c .before .before .before .before .before .before .before .is-onie .ensures) ∙ not-false _ (c .before .before .before .before .before .before .if2 .left)) (c .before .before .before .before .if3 .left) (omega (arith, c .before .before .before .declared-length .ensures .0, c .before .before .if4 .left)) (omega (arith, c .before .before .before .declared-length .ensures .0, c .before .if5 .taken)))
+returns-5 c =
+    let n = c .before .before .before .declared-length .ensures in
+    c .closed5 .ensures ∙ sym (past _ (c .before .before .before .before .before .before .before .before .if1 .left) (sym (c .before .before .before .before .before .before .before .is-onie .ensures) ∙ not-false _ (c .before .before .before .before .before .before .if2 .left)) (c .before .before .before .before .if3 .left) (omega (arith, n .0, c .before .before .if4 .left)) (omega (arith, n .0, c .before .if5 .taken)))
 
 add-t3 : tie.Need-add-t3
 add-t3 c = search needs
 
 returns-6 : tie.Need-returns-6
-returns-6 c = rw (c .before .before .declared-length .ensures .0) (sym (room _ (c .before .before .before .before .before .before .before .if1 .left) (sym (c .before .before .before .before .before .before .is-onie .ensures) ∙ not-false _ (c .before .before .before .before .before .if2 .left)) (c .before .before .before .if3 .left) (omega (arith, c .before .before .declared-length .ensures .0, c .before .if4 .left)) (omega (arith, c .before .before .declared-length .ensures .0, c .if5 .left)) (c .before .before .declared-length .ensures .2)))
+returns-6 c =
+    let n = c .before .before .declared-length .ensures in
+    rw (n .0) (sym (room _ (c .before .before .before .before .before .before .before .if1 .left) (sym (c .before .before .before .before .before .before .is-onie .ensures) ∙ not-false _ (c .before .before .before .before .before .if2 .left)) (c .before .before .before .if3 .left) (omega (arith, n .0, c .before .if4 .left)) (omega (arith, n .0, c .if5 .left)) (n .2)))
 
 pub onie-opened-spec : {M : Type 1} → statement M
 onie-opened-spec =

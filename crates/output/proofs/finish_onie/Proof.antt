@@ -70,10 +70,11 @@ same-length c = search needs
 returns : tie.Need-returns
 unfolding onie onieCheck
 returns c =
-    let a = c .before .before .before .before .before .before .before .before .before .before .before .before .before .before .before .before .before .before .args in
+    let b = c .before .before .before .before .before .before .before .before .before .before .before .before .before .before .before .before .before .before in
+    let a = b .args in
     let version : List ℕ = 0x01 ∷ ((a .n + 6) / 256) ∷ ((a .n + 6) % 256) ∷ [] in
-    let header = copied-then (now (a .out)) 0 tlvInfo version (c .before .before .before .before .before .before .before .before .before .before .before .before .before .before .copy-at .ensures) (c .before .before .before .before .before .before .before .before .before .copy-at2 .ensures) (omega (arith, c .before .before .before .before .before .before .before .before .before .before .before .before .before .before .before .before .before .before .pre .0)) refl in
-    sealed onie (now (a .out)) (tlvInfo ++ version) (a .n) header (c .before .before .put-end .ensures) refl (rw (c .before .before .before .before .before .check32-closed .ensures)) (omega (arith, c .before .before .before .before .before .before .before .before .before .before .before .before .before .before .before .before .before .before .pre .0))
+    let header = copied-then (now (a .out)) 0 tlvInfo version (c .before .before .before .before .before .before .before .before .before .before .before .before .before .before .copy-at .ensures) (c .before .before .before .before .before .before .before .before .before .copy-at2 .ensures) (omega (arith, b .pre .0)) refl in
+    sealed onie (now (a .out)) (tlvInfo ++ version) (a .n) header (c .before .before .put-end .ensures) refl (rw (c .before .before .before .before .before .check32-closed .ensures)) (omega (arith, b .pre .0))
 
 pub finish-onie-spec : {M : Type 1} → statement M
 finish-onie-spec =
