@@ -133,13 +133,10 @@ pub mirror-at : (bs : List ℕ) (i : ℕ) → getD (map (mirror 8) bs) i 0 ≡ m
 unfolding mirror
 mirror-at bs i = List·getD-map (mirror 8) bs i 0
 
--- Two bytes after others, all mirrored, are taken in last.
-pub two-last : (w p s : ℕ) (bs : List ℕ) (x y : ℕ) →
-    byteIn w p (byteIn w p (checkOf w p s (map (mirror 8) bs)) (mirror 8 x)) (mirror 8 y) ≡ checkOf w p s (map (mirror 8) (bs ++ (x ∷ y ∷ [])))
-unfolding checkOf
-two-last w p s bs x y =
-    let two : List ℕ = x ∷ y ∷ [] in
-    sym (ap (checkOf w p s) (map-append (mirror 8) bs two) ∙ in-parts w p s (map (mirror 8) bs) (map (mirror 8) two))
+-- Bytes after others, all mirrored, are taken in after them.
+pub mirrored-parts : (w p s : ℕ) (bs cs : List ℕ) →
+    checkOf w p (checkOf w p s (map (mirror 8) bs)) (map (mirror 8) cs) ≡ checkOf w p s (map (mirror 8) (bs ++ cs))
+mirrored-parts w p s bs cs = sym (ap (checkOf w p s) (map-append (mirror 8) bs cs) ∙ in-parts w p s (map (mirror 8) bs) (map (mirror 8) cs))
 
 -- The check of bytes that are all taken in, with the remainder kept mirrored: the final change of the remainder.
 pub final-change : (r : ℕ) (bs : List ℕ) → r < 2 ^ 32 → mirror 32 r ≡ checkOf 32 polynomial32 0xFFFFFFFF (map (mirror 8) bs) → bitXor r 0xFFFFFFFF ≡ check32Of bs

@@ -145,18 +145,19 @@ fn mixed32(low: &[u32; 256], high: &[u32; 256], r: u32, b: u8, c: u8) -> u32
     entry32(low, lowest ^ b) ^ entry32(high, next ^ c)
 }
 
-// The bytes taken in from the start FFFFFFFFh, four at once as in check16, over tables that are lent.
+// The bytes taken in from a start, four at once as in check16, over tables that are lent.
 fn bytes_in32(
     third: &[u32; 256],
     second: &[u32; 256],
     first: &[u32; 256],
     remainders: &[u32; 256],
+    start: u32,
     bytes: &[u8],
 ) -> u32
     requires { ⌜ (now third ≡ rows (mirrored 32 (ahead 32 polynomial32 3)) 256 0) × (now second ≡ rows (mirrored 32 (ahead 32 polynomial32 2)) 256 0) × (now first ≡ rows (mirrored 32 (ahead 32 polynomial32 1)) 256 0) × (now remainders ≡ rows (mirrored 32 (remainder 32 polynomial32)) 256 0) ⌝ }
-    ensures { λ r. ⌜ mirror 32 r ≡ checkOf 32 polynomial32 0xFFFFFFFF (map (mirror 8) (now (bytes .entry))) ⌝ }
+    ensures { λ r. ⌜ mirror 32 r ≡ checkOf 32 polynomial32 (mirror 32 start) (map (mirror 8) (now (bytes .entry))) ⌝ }
 {
-    let mut r: u32 = 0xFFFFFFFF;
+    let mut r: u32 = start;
     let mut i = 0;
     while i + 3 < bytes.len() {
         let rest = mixed32(first, remainders, r >> 16, bytes[i + 2], bytes[i + 3]);
@@ -170,27 +171,30 @@ fn bytes_in32(
     r
 }
 
-// The 32-bit check (02, ONIE images and edition 3).
-pub fn check32(bytes: &[u8]) -> u32
-    ensures { λ r. ⌜ r ≡ check32Of (now (bytes .entry)) ⌝ }
+// The 32-bit check of bytes and of more bytes after them that need not stand beside them: the one place where its tables are made.
+fn check32_over(bytes: &[u8], last: &[u8]) -> u32
+    ensures { λ r. ⌜ r ≡ check32Of (now (bytes .entry) ++ now (last .entry)) ⌝ }
 {
     // Locals, lent to each turn, as those of check16.
     let third = AHEAD32_3;
     let second = AHEAD32_2;
     let first = AHEAD32_1;
     let remainders = REMAINDERS32;
-    bytes_in32(&third, &second, &first, &remainders, bytes) ^ 0xFFFFFFFF
+    let r = bytes_in32(&third, &second, &first, &remainders, 0xFFFFFFFF, bytes);
+    bytes_in32(&third, &second, &first, &remainders, r, last) ^ 0xFFFFFFFF
+}
+
+// The 32-bit check (02, ONIE images and edition 3).
+pub fn check32(bytes: &[u8]) -> u32
+    ensures { λ r. ⌜ r ≡ check32Of (now (bytes .entry)) ⌝ }
+{
+    check32_over(bytes, &bytes[..0])
 }
 
 // The 32-bit check of bytes and two more after them that need not stand beside them.
 pub fn check32_closed(bytes: &[u8], x: u8, y: u8) -> u32
     ensures { λ r. ⌜ r ≡ check32Of (now (bytes .entry) ++ (x ∷ y ∷ [])) ⌝ }
 {
-    // Locals, lent to each turn, as those of check16.
-    let third = AHEAD32_3;
-    let second = AHEAD32_2;
-    let first = AHEAD32_1;
-    let remainders = REMAINDERS32;
-    let r = bytes_in32(&third, &second, &first, &remainders, bytes);
-    byte_in32(&remainders, byte_in32(&remainders, r, x), y) ^ 0xFFFFFFFF
+    let two = [x, y];
+    check32_over(bytes, &two)
 }

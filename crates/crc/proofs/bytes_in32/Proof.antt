@@ -18,26 +18,25 @@ abbrev entry : (n i : ℕ) → ℕ
 entry n = mirrored 32 (ahead 32 polynomial32 n)
 
 -- The invariant of both loops: the mirrored bytes are taken in from the mirror of r.
-abbrev Inv : (bytes : List ℕ) (r i : ℕ) → Type 0
-Inv bytes r i =
+abbrev Inv : (start : ℕ) (bytes : List ℕ) (r i : ℕ) → Type 0
+Inv start bytes r i =
     let taken : List ℕ = map (mirror 8) bytes in
-    (i ≤ length bytes) × (r < 2 ^ 32) × Running 32 polynomial32 (checkOf 32 polynomial32 0xFFFFFFFF taken) taken (mirror 32 r) i
+    (i ≤ length bytes) × (r < 2 ^ 32) × Running 32 polynomial32 (checkOf 32 polynomial32 (mirror 32 start) taken) taken (mirror 32 r) i
 
 abbrev Inv-loop : tie.InvT-loop
-Inv-loop third second first remainders bytes r₀ i₀ r i = Inv bytes r i
+Inv-loop third second first remainders start bytes r₀ i₀ r i = Inv start bytes r i
 
 abbrev μ-loop : tie.MeasureT-loop
-μ-loop third second first remainders bytes r₀ i₀ r i = length bytes - i
+μ-loop third second first remainders start bytes r₀ i₀ r i = length bytes - i
 
 abbrev Inv-loop2 : tie.InvT-loop2
-Inv-loop2 third second first remainders bytes r₀ i₀ r i = Inv bytes r i
+Inv-loop2 third second first remainders start bytes r₀ i₀ r i = Inv start bytes r i
 
 abbrev μ-loop2 : tie.MeasureT-loop2
-μ-loop2 third second first remainders bytes r₀ i₀ r i = length bytes - i
+μ-loop2 third second first remainders start bytes r₀ i₀ r i = length bytes - i
 
 loop-holds : tie.Need-loop-holds Inv-loop μ-loop Inv-loop2 μ-loop2
-unfolding mirror
-loop-holds c = (search needs, lit< tt, (search needs, refl))
+loop-holds c = (search needs, search needs, (search needs, refl))
 
 add-loop : tie.Need-add-loop Inv-loop μ-loop Inv-loop2 μ-loop2
 add-loop c = search needs

@@ -1,19 +1,20 @@
--- `crc::check32` meets its contract: the rules of the four tables are computed, and the final change follows the bytes.
+-- `crc::check32` meets its contract: no bytes follow.
 -- Assumes nothing.
-use mathlib.Core.Path.{refl}
+use mathlib.Core.Path.{ap, _∙_}
+use mathlib.Core.List.{append-nil}
 use borrow.Author.Needs.{needs}
-use Rattle.crc.specs.Crc.{singleBit, byteIn, remainder, ahead, mirror, mirrored}
-use Rattle.crc.specs.Table.{rows}
-use Rattle.crc.proofs.Mirror.{final-change}
+use Rattle.crc.specs.Crc.{check32Of}
 use Rattle.crc.proofs.check32.Statement.{statement}
 use Rattle.crc.proofs.check32.Tie as tie
 
-bytes-in32-requires : tie.Need-bytes-in32-requires
-unfolding rows mirrored mirror ahead byteIn remainder singleBit
-bytes-in32-requires c κs = (refl, refl, refl, refl)
+slice-aggregate-check32-over : tie.Need-slice-aggregate-check32-over
+slice-aggregate-check32-over c = search needs
+
+check32-over-requires : tie.Need-check32-over-requires
+check32-over-requires c κs = search needs
 
 returns : tie.Need-returns
-returns c = final-change (c .bytes-in32 .result) _ (search needs) (c .bytes-in32 .ensures)
+returns c = c .check32-over .ensures ∙ ap check32Of (append-nil (c .before .before .before .args .bytes .now))
 
 pub check32-spec : {M : Type 1} → statement M
-check32-spec = tie.close (tie.spec bytes-in32-requires returns)
+check32-spec = tie.close (tie.spec slice-aggregate-check32-over check32-over-requires returns)
