@@ -101,7 +101,7 @@ rooms =
           let low : (length entries + 6) % 256 ≡ getD image 10 0 = omega (arith, r .low) in
           let front : take D (drop 11 image) ≡ entries ++ rest = rw (r .starts, r .ends) at room in
           let after : drop 11 image ≡ entries ++ (rest ++ beyond)
-          = sym (take-append-beyond) ∙ ap (λ (l : List ℕ). l ++ beyond) front ∙ append-assoc entries rest (beyond) in
+          = sym (take-append-drop D (drop 11 image)) ∙ ap (λ (l : List ℕ). l ++ beyond) front ∙ append-assoc entries rest beyond in
           let closed : rest ++ beyond ≡ 0xFE ∷ 0x04 ∷ (drop 2 rest ++ beyond) = ap (λ (l : List ℕ). l ++ beyond) closes in
           (r .starts, record { closing = 0xFE ∷ 0x04 ∷ []; rest = drop 2 rest ++ beyond; closes = refl; takes = omega (arith, r .most); is = cc (r .is, after, closed, high, low) });
     }
