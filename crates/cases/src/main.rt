@@ -356,7 +356,7 @@ fn is_serial_written(fields: &[u8]) -> bool {
         )
 }
 
-fn run_onie(empty: &[u8], switch: &[u8], fields: &[u8]) {
+fn run_onie(empty: &[u8], cut: &[u8], switch: &[u8], fields: &[u8]) {
     say(
         b"check of the digits",
         crc::check32(b"123456789") == 0xCBF43926,
@@ -367,7 +367,7 @@ fn run_onie(empty: &[u8], switch: &[u8], fields: &[u8]) {
         is_refused(4, 2, empty, 16, 0),
     );
     say(b"onie by edition 9, refused", is_refused(4, 9, empty, 1, 0));
-    say(b"onie cut, refused", is_refused(4, 3, &empty[..16], 5, 9));
+    say(b"onie cut, refused", is_refused(4, 3, cut, 5, 9));
     say(b"switch", is_switch(switch));
     say(b"switch edited", is_switch_edited(switch));
     say(b"serial number written", is_serial_written(fields));
@@ -415,6 +415,7 @@ fn main() {
     );
     run_onie(
         b"TlvInfo\x00\x01\x00\x06\xFE\x04\xD4C\x1C\x18",
+        b"TlvInfo\x00\x01\x00\x06\xFE\x04\xD4C\x1C",
         b"TlvInfo\x00\x01\x00%!\x03SW1$\x06\x00\x11\x223DU*\x02\x00\x08\xFD\x05\x00\x00\x1Fy\x00\xFD\x05\x00\x00\x1Fy\x01\xFE\x04cm\x83\xB7",
         b"\x23\x00\x00\x00\x00\x00\x00\x00\x00\x00\x00\x00\x00\x00\x00\x00\x02\x00\x00\x00",
     );
