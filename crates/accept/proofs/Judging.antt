@@ -18,6 +18,7 @@ use Rattle.layout.specs.Read.{seenBefore, readerRule, fault, judge, complete, c
 use Rattle.laws.specs.Marked.{allMarked}
 use Rattle.laws.specs.Passes.{walked, labels}
 use Rattle.laws.proofs.Frames.{rawOf}
+use Rattle.laws.proofs.Lists.{joined-append}
 use Rattle.laws.proofs.Marks.{Marks, none-marked, one-marked, marked-complete}
 use Rattle.laws.proofs.Names.{required-bytes}
 use Rattle.laws.proofs.Walking.{walk-end, walk-bad}
@@ -53,12 +54,10 @@ module _ (S : Shape) (e : ℕ) (seen : List Label) (c : Content) where
 -- ---- the loop
 
 codes-snoc : (rs : List Raw) (r : Raw) → codesOf (rs ++ (r ∷ [])) ≡ codesOf rs ++ (r .frame .code ∷ [])
-codes-snoc [] r = refl
-codes-snoc (x ∷ rs) r = ap (λ (l : List ℕ). x .frame .code ∷ l) (codes-snoc rs r)
+codes-snoc rs r = joined-append codesOf (λ x. x .frame .code ∷ []) refl (λ x xs. refl) rs (r ∷ [])
 
 labels-snoc : (rs : List Raw) (r : Raw) → labels (rs ++ (r ∷ [])) ≡ labels rs ++ (labelOf (content r) ∷ [])
-labels-snoc [] r = refl
-labels-snoc (x ∷ rs) r = ap (λ (l : List Label). labelOf (content x) ∷ l) (labels-snoc rs r)
+labels-snoc rs r = joined-append labels (λ x. labelOf (content x) ∷ []) refl (λ x xs. refl) rs (r ∷ [])
 
 passed-snoc : (f : Format) (image : List ℕ) (end : ℕ) (b c : Bool) (q p : ℕ) (rs : List Raw) (x : Frame) → Passed f image end b q rs c p → next (shape f) c (part p (end - p) image) ≡ Framed x →
     Passed f image end b q (rs ++ (rawOf x (part p (end - p) image) ∷ [])) (shape f .last (x .code)) (p + x .size)

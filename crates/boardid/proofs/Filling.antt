@@ -20,6 +20,7 @@ use Rattle.laws.specs.Grammar.{grammar}
 use Rattle.laws.specs.Passes.{walked, IsDone, rawsIn}
 use Rattle.laws.proofs.Formats.{laws}
 use Rattle.laws.proofs.Frames.{rawOf}
+use Rattle.laws.proofs.Lists.{joined-append}
 use Rattle.laws.proofs.Records.{entries-none, entries-more, entries-count}
 use Rattle.laws.proofs.Passes.{Passing, pass-first, pass-on, pass-ends, pass-unbroken}
 use Rattle.output.specs.Placing.{over, copied}
@@ -35,8 +36,7 @@ use Rattle.records.proofs.Words.{length-record, length-records}
 
 records-snoc : (xs : List Entry) (x : Entry) → recordsBytes (xs ++ (x ∷ [])) ≡ recordsBytes xs ++ recordBytes x
 unfolding recordsBytes
-records-snoc [] x = append-nil (recordBytes x)
-records-snoc (y ∷ xs) x = ap (λ (l : List ℕ). recordBytes y ++ l) (records-snoc xs x) ∙ sym (append-assoc (recordBytes y) (recordsBytes xs) (recordBytes x))
+records-snoc xs x = joined-append recordsBytes recordBytes refl (λ y ys. refl) xs (x ∷ []) ∙ ap (λ (l : List ℕ). recordsBytes xs ++ l) (append-nil (recordBytes x))
 
 records-none : recordsBytes [] ≡ []
 unfolding recordsBytes

@@ -25,6 +25,7 @@ use Rattle.layout.specs.Edit.{revalued, editedBytes, editRule, Allowed, allowed
 use Rattle.laws.specs.Grammar.{Grammar, grammar}
 use Rattle.laws.proofs.Frames.{raw-size, raw-at, part-between}
 use Rattle.laws.proofs.Calls.{edit-read}
+use Rattle.laws.proofs.Lists.{joined-append}
 use Rattle.frames.specs.declared.Spot.the-variants.{At, Nowhere}
 use Rattle.frames.specs.Spots.{spotAt}
 use Rattle.frames.proofs.Spots.{Sized, Spotted, OnSpot, spot-walked}
@@ -73,10 +74,6 @@ module _ (S : Shape) (e : ℕ) (raw : Raw) (after : List Raw) (v : List ℕ) whe
   edited-past [] = refl
   edited-past (r ∷ past) = ap (λ (x : List ℕ). r .bytes ++ x) (edited-past past) ∙ sym (append-assoc (r .bytes) (flat past) (revalued S raw v ++ flat after))
 
-flat-past : (past : List Raw) (raw : Raw) (after : List Raw) → flat (past ++ (raw ∷ after)) ≡ flat past ++ (raw .bytes ++ flat after)
-flat-past [] raw after = refl
-flat-past (r ∷ past) raw after = ap (λ (x : List ℕ). r .bytes ++ x) (flat-past past raw after) ∙ sym (append-assoc (r .bytes) (flat past) (raw .bytes ++ flat after))
-
 -- ---- the entry in the image
 
 -- in an image whose entries stand after H, the bytes from the first entry up to the length of a value, and the bytes after that value
@@ -123,7 +120,7 @@ module _ {S : Shape} {G : Grammar} (image H rest : List ℕ) (rs : List Raw) (st
   opens = rw framed at (raw-at (w .isRaw))
 
   flats : flat rs ≡ past ++ (bytes ++ after)
-  flats = ap flat (w .joined) ∙ flat-past (w .past) (w .raw) (w .after)
+  flats = ap flat (w .joined) ∙ joined-append flat (λ r. r .bytes) refl (λ r rs. refl) (w .past) (w .raw ∷ w .after)
 
   long : length (flat rs) ≡ length past + (length bytes + length after)
   long = ap length flats ∙ length-append past (bytes ++ after) ∙ ap (λ (n : ℕ). length past + n) (length-append bytes after)

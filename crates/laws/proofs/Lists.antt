@@ -1,8 +1,8 @@
--- What is known of a list of bytes from tests of its bytes, and of each item of a list from its parts.
+-- What is known of a list of bytes from tests of its bytes, of lists that are joined item by item, and of each item of a list from its parts.
 -- Assumes nothing.
 use Prim.Native.Nat.{ℕ, suc, _<_}
-use mathlib.Core.Path.{_≡_}
-use mathlib.Core.List.{List, [], _∷_, _++_}
+use mathlib.Core.Path.{_≡_, ap, sym, _∙_}
+use mathlib.Core.List.{List, [], _∷_, _++_, append-assoc}
 use mathlib.Core.Bool.{true}
 use lib.ListN.{length, getD, drop}
 use lib.Seq.{drop-cons}
@@ -13,6 +13,13 @@ use Rattle.laws.specs.Grammar.{Each, none, also}
 -- A list goes on from a place with the byte that a test found there.
 pub byte-at : (l : List ℕ) (j b : ℕ) → j < length l → eqb (getD l j 0) b ≡ true → drop j l ≡ b ∷ drop (suc j) l
 byte-at l j b h e = rw (drop-cons l j 0 h, eqb-true (getD l j 0) b e)
+
+-- A function that joins what it has for each item: for one list after another it gives what it gives for the two.
+pub joined-append : {A B : Type 0} (h : List A → List B) (g : A → List B) → h [] ≡ [] → ((x : A) (xs : List A) → h (x ∷ xs) ≡ g x ++ h xs) →
+    (xs ys : List A) → h (xs ++ ys) ≡ h xs ++ h ys
+joined-append {B = B} h g nil one [] ys = ap (λ (l : List B). l ++ h ys) (sym nil)
+joined-append {B = B} h g nil one (x ∷ xs) ys =
+    one x (xs ++ ys) ∙ ap (λ (l : List B). g x ++ l) (joined-append h g nil one xs ys) ∙ sym (append-assoc (g x) (h xs) (h ys)) ∙ ap (λ (l : List B). l ++ h ys) (sym (one x xs))
 
 -- ---- what holds of each item
 

@@ -1,13 +1,14 @@
 -- Words over lent bytes, one after another.
 -- Assumes nothing.
-use Prim.Native.Nat.{ℕ, suc, _+_, _*_, _≤_, _<_}
+use Prim.Native.Nat.{ℕ, _+_, _*_, _≤_, _<_}
 use mathlib.Core.Path.{_≡_, refl, ap, sym, _∙_}
-use mathlib.Core.List.{List, [], _∷_, _++_, append-assoc, append-nil}
+use mathlib.Core.List.{List, [], _∷_, _++_}
 use native.Mathlib.Nat.{add-zero}
 use native.Mathlib.Numerals.{add-one}
 use native.Mathlib.Omega.{arith}
 use lib.ListN.{length, getD, set, take, length-append}
 use lib.Seq.{take-all, take-suc, length-take-le}
+use Rattle.laws.proofs.Lists.{joined-append}
 use Rattle.output.specs.Placing.{over, copied}
 use Rattle.output.proofs.Overlay.{length-over, over-nil, over-over, copied-over, copied-not, Copying, copies, copied-all}
 use Rattle.layout.specs.declared.Reading.{Reading}
@@ -33,8 +34,7 @@ length-words (w ∷ ws) = let q = length-words ws in omega (arith, q)
 
 words-snoc : (ws : List ℕ) (w : ℕ) → wordsBytes (ws ++ (w ∷ [])) ≡ wordsBytes ws ++ wordBytes w
 unfolding wordsBytes
-words-snoc [] w = refl
-words-snoc (x ∷ ws) w = ap (λ (l : List ℕ). wordBytes x ++ l) (words-snoc ws w) ∙ sym (append-assoc (wordBytes x) (wordsBytes ws) (wordBytes w))
+words-snoc ws w = joined-append wordsBytes wordBytes refl (λ x xs. refl) ws (w ∷ [])
 
 words-none : wordsBytes [] ≡ []
 unfolding wordsBytes

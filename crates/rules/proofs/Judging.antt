@@ -2,7 +2,7 @@
 -- Assumes nothing.
 use Prim.Native.Nat.{ℕ, zero, suc, _+_, _≤_, _<_}
 use mathlib.Core.Path.{_≡_, refl, ap, sym, _∙_}
-use mathlib.Core.List.{List, [], _∷_, _++_}
+use mathlib.Core.List.{List, [], _∷_, _++_, append-nil}
 use mathlib.Core.Bool.{Bool, true, false, _&&_}
 use native.Mathlib.Omega.{arith}
 use native.Mathlib.Numerals.{add-one}
@@ -17,6 +17,7 @@ use Rattle.layout.specs.Walk.{Content, labelOf}
 use Rattle.layout.specs.Read.{seenBefore, orElse, complete}
 use Rattle.layout.specs.Write.{fieldAt, fieldKey, partsInside, fieldContent, writerRule, fieldFault, judgeFields, contentsOf, contentCodes, entryBytes, entriesBytes}
 use Rattle.laws.specs.Marked.{allMarked}
+use Rattle.laws.proofs.Lists.{joined-append}
 use Rattle.laws.proofs.Marks.{Marks, none-marked, one-marked, marked-complete}
 use Rattle.laws.proofs.Names.{named-byte, required-bytes}
 use Rattle.laws.proofs.Seen.{labelCodes}
@@ -87,12 +88,10 @@ entry-length S c m n r mq nq rq =
 
 labels-snoc : (S : Shape) (values : List ℕ) (xs : List Field) (x : Field) →
     fieldLabels S values (xs ++ (x ∷ [])) ≡ fieldLabels S values xs ++ (labelOf (fieldContent S values x) ∷ [])
-labels-snoc S values [] x = refl
-labels-snoc S values (y ∷ xs) x = ap (λ (l : List Label). labelOf (fieldContent S values y) ∷ l) (labels-snoc S values xs x)
+labels-snoc S values xs x = joined-append (fieldLabels S values) (λ y. labelOf (fieldContent S values y) ∷ []) refl (λ y ys. refl) xs (x ∷ [])
 
 codes-snoc : (bs : List Label) (b : Label) → labelCodes (bs ++ (b ∷ [])) ≡ labelCodes bs ++ (b .code ∷ [])
-codes-snoc [] b = refl
-codes-snoc (a ∷ bs) b = ap (λ (l : List ℕ). a .code ∷ l) (codes-snoc bs b)
+codes-snoc bs b = joined-append labelCodes (λ a. a .code ∷ []) refl (λ a later. refl) bs (b ∷ [])
 
 label-codes : (S : Shape) (values : List ℕ) (xs : List Field) → labelCodes (fieldLabels S values xs) ≡ contentCodes (contentsOf S values xs)
 label-codes S values [] = refl
@@ -104,10 +103,11 @@ made S values xs = length (entriesBytes S (contentsOf S values xs))
 
 made-snoc : (S : Shape) (values : List ℕ) (xs : List Field) (x : Field) → made S values (xs ++ (x ∷ [])) ≡ made S values xs + length (entryBytes S (fieldContent S values x))
 unfolding entriesBytes
-made-snoc S values [] x = omega (arith, length-append (entryBytes S (fieldContent S values x)) [])
-made-snoc S values (y ∷ xs) x =
-    let a = entryBytes S (fieldContent S values y) in
-    omega (arith, made-snoc S values xs x, length-append a (entriesBytes S (contentsOf S values (xs ++ (x ∷ [])))), length-append a (entriesBytes S (contentsOf S values xs)))
+made-snoc S values xs x =
+    let before = entriesBytes S (contentsOf S values xs) in
+    let one = entryBytes S (fieldContent S values x) in
+    ap length (joined-append (λ ys. entriesBytes S (contentsOf S values ys)) (λ y. entryBytes S (fieldContent S values y)) refl (λ y ys. refl) xs (x ∷ []))
+    ∙ ap (λ (l : List ℕ). length (before ++ l)) (append-nil one) ∙ length-append before one
 
 -- ---- the loop
 

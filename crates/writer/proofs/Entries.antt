@@ -2,7 +2,7 @@
 -- Assumes nothing.
 use Prim.Native.Nat.{ℕ, zero, suc, _+_, _≤_, _<_}
 use mathlib.Core.Path.{_≡_, refl, ap, sym, _∙_}
-use mathlib.Core.List.{List, [], _∷_, _++_, append-assoc, append-nil}
+use mathlib.Core.List.{List, [], _∷_, _++_, append-nil}
 use native.Mathlib.Omega.{arith}
 use lib.ListN.{length, getD, take, drop, length-append, take-append-drop}
 use lib.Seq.{take-all}
@@ -12,6 +12,7 @@ use Rattle.layout.specs.Walk.{Content}
 use Rattle.layout.specs.Read.{limit}
 use Rattle.layout.specs.Write.{fieldAt, fieldContent, fieldsIn, entryBytes, entriesBytes}
 use Rattle.laws.specs.Grammar.{none, also}
+use Rattle.laws.proofs.Lists.{joined-append}
 use Rattle.output.specs.Lengths.{capped}
 use Rattle.output.specs.Placing.{over, copied, openingPlaced, valuePlaced}
 use Rattle.output.proofs.Lengths.{capped-min}
@@ -44,9 +45,7 @@ entry-put S c d a ok short room {d₁ = d₁} {k = k} {v = v} p q e₁ e₂ e₃
 module _ (S : Shape) (values : List ℕ) where
   bytes-append : (xs ys : List Field) → fieldsBytes S values (xs ++ ys) ≡ fieldsBytes S values xs ++ fieldsBytes S values ys
   unfolding entriesBytes
-  bytes-append [] ys = refl
-  bytes-append (x ∷ xs) ys =
-      rw (bytes-append xs ys) (sym (append-assoc (fieldBytes S values x) (fieldsBytes S values xs) (fieldsBytes S values ys)))
+  bytes-append xs ys = joined-append (fieldsBytes S values) (fieldBytes S values) refl (λ x xs. refl) xs ys
 
   bytes-one : (x : Field) → fieldsBytes S values (x ∷ []) ≡ fieldBytes S values x
   unfolding entriesBytes

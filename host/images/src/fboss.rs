@@ -23,15 +23,15 @@ pub fn unnamed(random: &mut Random) -> u8 {
 /// A value that keeps the rule of a code.
 pub fn kept(random: &mut Random, code: u8) -> Vec<u8> {
     match code {
-        3 => text(random, 8),
-        4 | 5 => text(random, 12),
+        3 => random.text(8),
+        4 | 5 => random.text(12),
         8..=10 => random.bytes(1),
         13 => date(random),
         17..=20 => random.bytes(8),
         _ => {
-            let length = any_length(random);
+            let length = random.byte_length();
             match code {
-                1..=16 => text(random, length),
+                1..=16 => random.text(length),
                 _ => random.bytes(length),
             }
         }
@@ -73,31 +73,11 @@ pub fn broken(random: &mut Random, code: u8) -> Vec<u8> {
     value
 }
 
-fn text(random: &mut Random, length: usize) -> Vec<u8> {
-    (0..length)
-        .map(|_| match random.below(8) {
-            0 => 0x20,
-            1 => 0x7E,
-            _ => random.between(0x20, 0x7E) as u8,
-        })
-        .collect()
-}
-
 fn date(random: &mut Random) -> Vec<u8> {
     let year = random.pick(&[0, 1999, 2013, 2024, 9999]);
     let month = random.between(1, 12);
     let day = random.pick(&[1, 9, 10, 28, 29, 30, 31]);
     format!("{year:04}{month:02}{day:02}").into_bytes()
-}
-
-fn any_length(random: &mut Random) -> usize {
-    match random.below(24) {
-        0 => 255,
-        1 => 254,
-        2 => random.between(20, 255),
-        3..=6 => 0,
-        _ => random.between(1, 16),
-    }
 }
 
 /// The entries of an image that edition 1 accepts. Later editions accept it but for one in a few,

@@ -45,9 +45,9 @@ pub fn kept(random: &mut Random, code: u8) -> Vec<u8> {
         0x2C => random.picks(b"AABCMYZZ", 2),
         EXTENSION => extension(random),
         _ => {
-            let length = any_length(random);
+            let length = random.byte_length();
             match TEXTS.contains(&code) {
-                true => text(random, length),
+                true => random.text(length),
                 false => random.bytes(length),
             }
         }
@@ -89,16 +89,6 @@ pub fn broken(random: &mut Random, code: u8) -> Vec<u8> {
     value
 }
 
-fn text(random: &mut Random, length: usize) -> Vec<u8> {
-    (0..length)
-        .map(|_| match random.below(8) {
-            0 => 0x20,
-            1 => 0x7E,
-            _ => random.between(0x20, 0x7E) as u8,
-        })
-        .collect()
-}
-
 /// A date with time, on the calendar and the clock or not.
 fn date(random: &mut Random) -> Vec<u8> {
     let year = random.pick(&[0, 1999, 2013, 2024, 9999]);
@@ -126,16 +116,6 @@ fn extension(random: &mut Random) -> Vec<u8> {
     value.extend(random.bytes(length));
     value.truncate(255);
     value
-}
-
-fn any_length(random: &mut Random) -> usize {
-    match random.below(24) {
-        0 => 255,
-        1 => 254,
-        2 => random.between(20, 255),
-        3..=6 => 0,
-        _ => random.between(1, 16),
-    }
 }
 
 /// The entries of an image that edition 3 accepts.
@@ -200,7 +180,7 @@ pub fn fields_declaring(random: &mut Random, length: usize) -> Vec<Entry> {
     }
     if left >= 2 {
         let code = random.pick(&TEXTS);
-        entries.push(Entry::new(code, text(random, left - 2)));
+        entries.push(Entry::new(code, random.text(left - 2)));
     }
     if random.once_in(2) {
         random.shuffle(&mut entries);

@@ -55,6 +55,28 @@ impl Random {
         (0..length).map(|_| self.pick(choices)).collect()
     }
 
+    /// Text (01), with many of its lowest and its highest byte.
+    pub fn text(&mut self, length: usize) -> Vec<u8> {
+        (0..length)
+            .map(|_| match self.below(8) {
+                0 => 0x20,
+                1 => 0x7E,
+                _ => self.between(0x20, 0x7E) as u8,
+            })
+            .collect()
+    }
+
+    /// The length of a value that one byte tells: often none, mostly a short one, and the longest.
+    pub fn byte_length(&mut self) -> usize {
+        match self.below(24) {
+            0 => 255,
+            1 => 254,
+            2 => self.between(20, 255),
+            3..=6 => 0,
+            _ => self.between(1, 16),
+        }
+    }
+
     pub fn shuffle<T>(&mut self, things: &mut [T]) {
         for last in (1..things.len()).rev() {
             things.swap(last, self.below(last + 1));
