@@ -90,7 +90,7 @@ WrittenFromC =
     let said = map (fieldSays f values) (fieldsIn fields) in
     Bytes output → ReadFromC f e output said × ReadFromC f e (take (countOf (writeCall f e fields values out .answer)) output) said
 
--- kind and reading of record j: format × 256 + code and 01's reading exactly where the edition names the code, else 0. The words from 8 on are the reading's number and what it
+-- kind and reading of record j: format × 256 + code and 01's or 02's reading exactly where the edition names the code, else 0. The words from 8 on are the reading's number and what it
 -- carries, as docs/C-INTERFACE.md has them, and 0
 pub record KindFromC (f e : ℕ) (format : Format) (image records : List ℕ) (j : ℕ) : Type 0 where
   pub kind : Named format e (recordWord records j 0) → recordWord records j 1 ≡ f * 256 + recordWord records j 0

@@ -122,15 +122,10 @@ pub fn fboss_reading(code: u32, v: &[u8]) -> Reading
 pub fn fboss_sealed(image: &[u8], p: usize) -> bool
     ensures { λ r. ⌜ r ≡ sealed fboss (now (image .entry)) p ⌝ }
 {
-    if image.len() < 4 {
+    if image.len() < p {
         return false;
     }
-    if image.len() - 4 < p {
-        return false;
-    }
-    let at = p + 2;
-    let end = at + 2;
     let c = crc::check16(&image[..p]);
     let check = [(c / 256) as u8, (c % 256) as u8];
-    parts::same_bytes(&image[at..end], &check)
+    parts::is_stored(image, p + 2, &check)
 }

@@ -48,3 +48,8 @@ OnLength P (Fails n) = Unit {0}
 abbrev pub OnOpened : (ℕ → ℕ → Type 0) → Opened → Type 0
 OnOpened P (Room start end) = P start end
 OnOpened P (Closed r) = Unit {0}
+
+-- What follows from what is said of a room is said of it.
+pub on-opened : {P Q : ℕ → ℕ → Type 0} → ((start end : ℕ) → P start end → Q start end) → (x : Opened) → OnOpened P x → OnOpened Q x
+on-opened f (Room start end) p = f start end p
+on-opened f (Closed r) p = tt

@@ -9,7 +9,6 @@ use lib.ListN.{length, getD, drop, length-drop}
 use lib.Seq.{take-all}
 use lib.Dec.{ltb, eqb}
 use borrow.Author.Tests.{ltb-false, le-ltb}
-use Rattle.layout.specs.declared.Opened.{Opened}
 use Rattle.layout.specs.Bytes.{part}
 use Rattle.layout.specs.Shape.{coded}
 use Rattle.layout.specs.Fboss.{fboss, fbossCoded, fbossOpened}
@@ -21,17 +20,17 @@ use Rattle.laws.proofs.Lists.{byte-at}
 use Rattle.laws.proofs.Coded.{Rooms, closing-ends, coded-laws}
 
 -- what a room tells of the image: it begins with the header, and the room is all that follows
-abbrev Opens : List ℕ → Opened → Type 0
-Opens s = OnOpened (λ start end. (start ≡ 4) × (end ≡ length s) × (s ≡ 0xFB ∷ 0xFB ∷ 0x05 ∷ 0xFF ∷ drop 4 s))
+abbrev pub FbossRoom : List ℕ → ℕ → ℕ → Type 0
+FbossRoom s start end = (start ≡ 4) × (end ≡ length s) × (s ≡ 0xFB ∷ 0xFB ∷ 0x05 ∷ 0xFF ∷ drop 4 s)
 
 -- What `fbossOpened` answers is so.
-opens : (s : List ℕ) → Opens s (fbossOpened s)
+pub fboss-room : (s : List ℕ) → OnOpened (FbossRoom s) (fbossOpened s)
 unfolding fbossOpened
-opens s =
-    either (Opens s) (ltb (length s) 4) (λ _. tt)
-    (λ long. either (Opens s) (eqb (getD s 0 0) 0xFB && eqb (getD s 1 0) 0xFB)
-    (λ magic. either (Opens s) (eqb (getD s 2 0) 0x05)
-    (λ is5. either (Opens s) (eqb (getD s 3 0) 0xFF)
+fboss-room s =
+    either (OnOpened (FbossRoom s)) (ltb (length s) 4) (λ _. tt)
+    (λ long. either (OnOpened (FbossRoom s)) (eqb (getD s 0 0) 0xFB && eqb (getD s 1 0) 0xFB)
+    (λ magic. either (OnOpened (FbossRoom s)) (eqb (getD s 2 0) 0x05)
+    (λ is5. either (OnOpened (FbossRoom s)) (eqb (getD s 3 0) 0xFF)
     (λ isFF.
     let l : 4 ≤ length s = ltb-false (length s) 4 long in
     let m = both (eqb (getD s 0 0) 0xFB) (eqb (getD s 1 0) 0xFB) magic in (
@@ -68,7 +67,7 @@ rooms =
       takes-made = λ entries le. tt;
       made = λ entries t fits. holds entries _ _ t;
       sound = λ image entries rest start end o room closes long filled.
-          let r = rw o at (opens image) in
+          let r = rw o at (fboss-room image) in
           let after = rw (r .0, r .1, take-all (length image - 4) (drop 4 image) (omega (arith, length-drop 4 image))) at room in
           (r .0, record { closing = 250 ∷ 2 ∷ []; rest = drop 2 rest; closes = refl; takes = tt; is = cc });
     }

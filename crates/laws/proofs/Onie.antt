@@ -22,7 +22,7 @@ use Rattle.laws.proofs.Images.{same-true}
 use Rattle.laws.proofs.Coded.{Rooms, closing-ends, coded-laws}
 
 -- what a room tells of the image: it begins with the header, and the room ends where the declared length says
-pub record Declares (s : List ℕ) (start end : ℕ) : Type 0 where
+pub record OnieRoom (s : List ℕ) (start end : ℕ) : Type 0 where
   pub starts : start ≡ 11
   pub ends : end ≡ 11 + declared s
   pub most : declared s ≤ 2048
@@ -31,13 +31,13 @@ pub record Declares (s : List ℕ) (start end : ℕ) : Type 0 where
   pub is : s ≡ tlvInfo ++ (0x01 ∷ getD s 9 0 ∷ getD s 10 0 ∷ drop 11 s)
 
 -- What `onieOpened` answers is so.
-pub declares : (s : List ℕ) → OnOpened (Declares s) (onieOpened s)
+pub onie-room : (s : List ℕ) → OnOpened (OnieRoom s) (onieOpened s)
 unfolding onieOpened part
-declares s =
-    either (OnOpened (Declares s)) (ltb (length s) 11) (λ _. tt)
-    (λ long. either (OnOpened (Declares s)) (sameBytes (take 8 s) tlvInfo)
-    (λ magic. either (OnOpened (Declares s)) (eqb (getD s 8 0) 0x01)
-    (λ is1. either (OnOpened (Declares s)) (leb (declared s) mostDeclared && leb (11 + declared s) (length s) && ltb (getD s 10 0) 256)
+onie-room s =
+    either (OnOpened (OnieRoom s)) (ltb (length s) 11) (λ _. tt)
+    (λ long. either (OnOpened (OnieRoom s)) (sameBytes (take 8 s) tlvInfo)
+    (λ magic. either (OnOpened (OnieRoom s)) (eqb (getD s 8 0) 0x01)
+    (λ is1. either (OnOpened (OnieRoom s)) (leb (declared s) mostDeclared && leb (11 + declared s) (length s) && ltb (getD s 10 0) 256)
     (λ fits.
     let l : 11 ≤ length s = ltb-false (length s) 11 long in
     let a = both (leb (declared s) mostDeclared && leb (11 + declared s) (length s)) (ltb (getD s 10 0) 256) fits in
@@ -93,7 +93,7 @@ rooms =
       takes-made = λ entries le. omega (arith, length-append entries (0xFE ∷ 0x04 ∷ onieCheck (onieCoded .header (length entries) ++ entries)));
       made = λ entries t fits. holds entries _ _ _ _ t fits;
       sound = λ image entries rest start end o room closes long filled.
-          let r = rw o at (declares image) in
+          let r = rw o at (onie-room image) in
           let D = 11 + declared image - 11 in
           let beyond = drop D (drop 11 image) in
           let six : length entries + 6 ≡ declared image = omega (arith, filled-six (start + length entries) end filled, r .starts, r .ends) in

@@ -1,16 +1,14 @@
 -- Records of entries: what their places point at in the image is what the entries say, and they tile it.
 -- Assumes nothing.
-use Prim.Native.Nat.{ℕ, zero, suc, _+_, _-_, _≤_, _<_}
+use Prim.Native.Nat.{ℕ, suc, _+_, _≤_, _<_}
 use mathlib.Core.Path.{_≡_, refl, ap, ap₂, sym, _∙_}
 use mathlib.Core.List.{List, [], _∷_, _++_, append-assoc, map}
 use mathlib.Core.Bool.{Bool, true, false}
 use native.Mathlib.Omega.{arith}
-use lib.ListN.{length, take, drop, length-append, length-drop}
+use lib.ListN.{length, drop, length-append, length-drop}
 use lib.Seq.{drop-append-add, drop-append-le, take-append-le}
-use Rattle.layout.specs.declared.Entry.{Entry}
 use Rattle.layout.specs.declared.Frame.{Frame}
-use Rattle.layout.specs.declared.Part.{Part}
-use Rattle.layout.specs.Bytes.{part, partAt}
+use Rattle.layout.specs.Bytes.{part}
 use Rattle.layout.specs.Shape.{Shape}
 use Rattle.layout.specs.Walk.{Raw, Content, content, flat}
 use Rattle.layout.specs.Calls.{keyPart, entryOf, entriesOf}

@@ -1,17 +1,15 @@
 -- The room of an image's entries lies inside the image, and a closing is short.
 -- Assumes nothing.
-use Prim.Native.Nat.{ℕ, _+_, _-_, _≤_}
-use mathlib.Core.Path.{_≡_}
+use Prim.Native.Nat.{ℕ, _+_, _≤_}
+use mathlib.Core.Path.{_≡_, ap}
 use mathlib.Core.List.{List}
-use mathlib.Core.Bool.{Bool, true, false, _&&_}
+use mathlib.Core.Bool.{Bool, true, false}
 use native.Mathlib.Omega.{arith}
-use lib.ListN.{length, getD}
-use lib.Dec.{ltb, leb, eqb}
-use borrow.Author.Tests.{ltb-false, leb-true}
+use lib.ListN.{length}
+use lib.Dec.{eqb}
 use Rattle.layout.specs.declared.Format.{Format}
 use Rattle.layout.specs.declared.Format.the-variants.{Fboss, Vpd, Tiny, Onie}
-use Rattle.layout.specs.declared.Opened.{Opened}
-use Rattle.layout.specs.declared.Opened.the-variants.{Room, Closed}
+use Rattle.layout.specs.declared.Opened.the-variants.{Room}
 use Rattle.layout.specs.Bytes.{if}
 use Rattle.layout.specs.Shape.{fine, faulty}
 use Rattle.layout.specs.Fboss.{fboss, fbossOpened}
@@ -19,8 +17,10 @@ use Rattle.layout.specs.Vpd.{vpd}
 use Rattle.layout.specs.Tiny.{tiny, tinyOpened}
 use Rattle.layout.specs.Onie.{onie, onieOpened, onieFilled}
 use Rattle.layout.specs.Editions.{shape}
-use Rattle.laws.proofs.Choices.{either, both, OnOpened}
-use Rattle.laws.proofs.Onie.{Declares, declares}
+use Rattle.laws.proofs.Choices.{OnOpened, on-opened}
+use Rattle.laws.proofs.Fboss.{FbossRoom, fboss-room}
+use Rattle.laws.proofs.Tiny.{TinyRoom, tiny-room}
+use Rattle.laws.proofs.Onie.{OnieRoom, onie-room}
 
 -- a closing has at most two bytes
 pub closing-short : (f : Format) → length (shape f .closing) ≤ 2
@@ -34,30 +34,11 @@ Inside : List ℕ → ℕ → ℕ → Type 0
 Inside image start end = (start ≤ end) × (end ≤ length image)
 
 rooms : (f : Format) (image : List ℕ) → OnOpened (Inside image) (shape f .opened image)
-unfolding fboss vpd tiny onie fbossOpened tinyOpened Inside
-rooms Fboss s =
-    either (OnOpened (Inside s)) (ltb (length s) 4) (λ _. tt)
-    (λ long. either (OnOpened (Inside s)) (eqb (getD s 0 0) 0xFB && eqb (getD s 1 0) 0xFB)
-    (λ _. either (OnOpened (Inside s)) (eqb (getD s 2 0) 0x05)
-    (λ _. either (OnOpened (Inside s)) (eqb (getD s 3 0) 0xFF) (λ _. (ltb-false (length s) 4 long, omega arith)) (λ _. tt))
-    (λ _. tt))
-    (λ _. tt))
+unfolding fboss vpd tiny onie Inside
+rooms Fboss s = on-opened {P = FbossRoom s} {Q = Inside s} (λ start end r. (omega (arith, r .0, r .1, ap length (r .2)), omega (arith, r .1))) (fbossOpened s) (fboss-room s)
 rooms Vpd s = (omega arith, omega arith)
-rooms Tiny s =
-    either (OnOpened (Inside s)) (ltb (length s) 3) (λ _. tt)
-    (λ _. either (OnOpened (Inside s)) (eqb (getD s 0 0) 0x56)
-    (λ _. either (OnOpened (Inside s)) (eqb (getD s 1 0) 0x02)
-    (λ _. either (OnOpened (Inside s)) (leb 4 (getD s 2 0) && leb (getD s 2 0) (length s))
-    (λ t. let w = both (leb 4 (getD s 2 0)) (leb (getD s 2 0) (length s)) t in
-    (omega (arith, leb-true 4 (getD s 2 0) (w .0)), omega (arith, leb-true (getD s 2 0) (length s) (w .1))))
-    (λ _. tt))
-    (λ _. tt))
-    (λ _. tt))
-rooms Onie s = go (onieOpened s) (declares s)
-  where
-    go : (x : Opened) → OnOpened (Declares s) x → OnOpened (Inside s) x
-    go (Room start end) d = (omega (arith, d .starts, d .ends), omega (arith, d .ends, d .inside))
-    go (Closed r) d = tt
+rooms Tiny s = on-opened {P = TinyRoom s} {Q = Inside s} (λ start end r. (omega (arith, r .0, r .1, r .2), omega (arith, r .1, r .3))) (tinyOpened s) (tiny-room s)
+rooms Onie s = on-opened {P = OnieRoom s} {Q = Inside s} (λ start end r. (omega (arith, r .starts, r .ends), omega (arith, r .ends, r .inside))) (onieOpened s) (onie-room s)
 
 -- the room of the entries lies inside the image
 pub room-inside : (f : Format) (image : List ℕ) (start end : ℕ) → shape f .opened image ≡ Room start end → (start ≤ end) × (end ≤ length image)

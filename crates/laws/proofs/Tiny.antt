@@ -13,7 +13,6 @@ use lib.Dec.{ltb, leb, eqb}
 use borrow.Author.Tests.{ltb-true, ltb-false, lt-ltb, le-ltb, leb-true, le-leb, eqb-true, eqb-false, ne-eqb}
 use Rattle.layout.specs.declared.Head.{Head}
 use Rattle.layout.specs.declared.Headed.{Headed}
-use Rattle.layout.specs.declared.Opened.{Opened}
 use Rattle.layout.specs.declared.Length.the-variants.{Reads}
 use Rattle.layout.specs.Bytes.{part}
 use Rattle.layout.specs.Tiny.{tiny, tinyOpened, tinyHead, tinyLength}
@@ -54,19 +53,17 @@ reads a lens t h v e (inl (low, is)) = rw (lt-ltb (h .code) 16 low, is) (byte-re
 reads a lens t h v e (inr (high, is, sized)) = rw (le-ltb (h .code) 16 high, is, sized, add-zero)
 
 -- what a room tells of the image: it has the header with its total length, and the room ends before the check
-abbrev Rooms : List ℕ → Opened → Type 0
-Rooms s =
-    OnOpened
-    (λ start end. (start ≡ 3) × (end ≡ getD s 2 0 - 1) × (4 ≤ getD s 2 0) × (getD s 2 0 ≤ length s) × (s ≡ 0x56 ∷ 0x02 ∷ getD s 2 0 ∷ drop 3 s))
+abbrev pub TinyRoom : List ℕ → ℕ → ℕ → Type 0
+TinyRoom s start end = (start ≡ 3) × (end ≡ getD s 2 0 - 1) × (4 ≤ getD s 2 0) × (getD s 2 0 ≤ length s) × (s ≡ 0x56 ∷ 0x02 ∷ getD s 2 0 ∷ drop 3 s)
 
 -- What `tinyOpened` answers is so.
-rooms : (s : List ℕ) → Rooms s (tinyOpened s)
+pub tiny-room : (s : List ℕ) → OnOpened (TinyRoom s) (tinyOpened s)
 unfolding tinyOpened
-rooms s =
-    either (Rooms s) (ltb (length s) 3) (λ _. tt)
-    (λ long. either (Rooms s) (eqb (getD s 0 0) 0x56)
-    (λ is56. either (Rooms s) (eqb (getD s 1 0) 0x02)
-    (λ is02. either (Rooms s) (leb 4 (getD s 2 0) && leb (getD s 2 0) (length s))
+tiny-room s =
+    either (OnOpened (TinyRoom s)) (ltb (length s) 3) (λ _. tt)
+    (λ long. either (OnOpened (TinyRoom s)) (eqb (getD s 0 0) 0x56)
+    (λ is56. either (OnOpened (TinyRoom s)) (eqb (getD s 1 0) 0x02)
+    (λ is02. either (OnOpened (TinyRoom s)) (leb 4 (getD s 2 0) && leb (getD s 2 0) (length s))
     (λ fits.
     let l : 3 ≤ length s = ltb-false (length s) 3 long in
     let f = both (leb 4 (getD s 2 0)) (leb (getD s 2 0) (length s)) fits in (
@@ -127,7 +124,7 @@ tiny-laws =
       takes-made = λ entries le. tt;
       room-made = λ entries z t is fits. rw is (holds entries _ t);
       room-sound = λ b image entries rest start end o room ends filled.
-          let r = rw o at (rooms image) in
+          let r = rw o at (tiny-room image) in
           let n = getD image 2 0 - 1 - 3 in
           let front : take n (drop 3 image) ≡ entries = rw (r .0, r .1, rw ends at (heads b rest), append-nil) at room in
           let size : length entries + 4 ≡ getD image 2 0 = rw (← front, length-take-le n (drop 3 image) (omega (arith, length-drop 3 image))) (omega arith) in

@@ -147,9 +147,12 @@ bare c k p v n reading = record { code = c; kind = k; place = place p; key = par
 abbrev pub keyed : ℕ → ℕ → ℕ → ℕ → ℕ → ℕ → ℕ → Entry
 keyed c k p a m v n = record { code = c; kind = k; place = place p; key = partAt a m; value = partAt v n; reading = Plain }
 
--- a record that no image has
+-- two records that no image has
 abbrev pub old : Entry
 old = bare 9 8 7 6 5 (Number 4)
+
+abbrev pub older : Entry
+older = keyed 1 2 3 4 5 6 7
 
 -- what an entry without a key says
 abbrev pub sayingBare : ℕ → List ℕ → Content

@@ -14,16 +14,12 @@ use Rattle.layout.specs.declared.Made.the-variants.{Wrote}
 use Rattle.layout.specs.Bytes.{partAt, stringNumber, refusal}
 use Rattle.layout.specs.Calls.{Told, toldRefusal, told, toldChecked, toldLookup, toldLocated}
 use Rattle.layout.specs.Write.{toldMade}
-use Rattle.layout.proofs.Cases.{text, hex, run, sku, threeBytes, noTags, named, bare, keyed, old, refuses, misses, nowhere, unwritten, checking}
+use Rattle.layout.proofs.Cases.{text, hex, run, sku, threeBytes, noTags, named, keyed, old, older, refuses, misses, nowhere, unwritten, checking}
 use Rattle.layout.proofs.Cases.{Case, checks, sweeps, fills, entries, finds, values, steps, says, tells, settles, shows, given, wanted}
 
 -- the record of the SKU image, as every edition lists it
 abbrev pub skuEntry : Entry
 skuEntry = keyed 0x01 513 0 2 3 6 2
-
--- another
-abbrev pub older : Entry
-older = keyed 1 2 3 4 5 6 7
 
 -- number, place, count, part and entries of an answer
 abbrev pub saying : ℕ → ℕ → ℕ → Part → List Entry → Told

@@ -55,7 +55,6 @@ cases =
     ∷ checks 4 3 (hex "54 6C 76 49 6E 66 6F 00 01 00 06 FE 04 D4 43 1C 18") (Accepted 0)
     ∷ lists 4 3 noEntries []
     -- ---- the header. 3: shorter than 11 bytes, whatever stands there
-    ∷ checks 4 3 [] (refuses 3 0)
     ∷ checks 4 3 (hex "54 6C 76 49 6E 66 6F 00 01 00") (refuses 3 0)
     ∷ checks 4 3 (hex "54 6C 76 49 6E 66 6F 00 02 09") (refuses 3 0)
     ∷ checks 4 3 (hex "54 6C 76 49 6E 66 6F 00 01 00 00") (refuses 5 11)
@@ -129,8 +128,7 @@ cases =
     ∷ checks 4 3 (noEntries ++ hex "00") (Accepted 0)
     ∷ checks 4 3 (noEntries ++ hex "FE 04 00 00 00 00 21 01") (Accepted 0)
     ∷ checks 4 3 (board ++ hex "FF FF 00") (Accepted 5)
-    -- ---- frames. 6: codes 00h and FFh, with a length byte or none
-    ∷ checks 4 3 (headed 1 (hex "00")) (refuses 6 11)
+    -- ---- frames. 6: codes 00h and FFh, with a length byte or none (00h with none: above)
     ∷ checks 4 3 (headed 1 (hex "FF")) (refuses 6 11)
     ∷ checks 4 3 (headed 2 (hex "00 00")) (refuses 6 11)
     ∷ checks 4 3 (headed 2 (hex "FF 00")) (refuses 6 11)
@@ -142,7 +140,6 @@ cases =
     -- 6: FEh with another length than 4, its value there or not
     ∷ checks 4 3 (headed 2 (hex "FE 03")) (refuses 6 11)
     ∷ checks 4 3 (headed 5 (hex "FE 03 00 00 00")) (refuses 6 11)
-    ∷ checks 4 3 (headed 11 (hex "FE 03 00 00 00 FE 04 00 00 00 00")) (refuses 6 11)
     ∷ checks 4 3 (headed 2 (hex "FE 05")) (refuses 6 11)
     ∷ checks 4 3 (headed 7 (hex "FE 05 00 00 00 00 00")) (refuses 6 11)
     ∷ checks 4 3 (headed 13 (hex "FE 05 00 00 00 00 00 FE 04 00 00 00 00")) (refuses 6 11)

@@ -12,11 +12,10 @@ use Rattle.layout.specs.declared.Lookup.the-variants.{Found}
 use Rattle.layout.specs.declared.Located.the-variants.{At}
 use Rattle.layout.specs.declared.Made.the-variants.{Wrote}
 use Rattle.layout.specs.Bytes.{partAt, refusal}
-use Rattle.layout.specs.Walk.{Content}
 use Rattle.layout.specs.Write.{writeImage}
 use Rattle.layout.specs.Edit.{editEntry}
 use Rattle.layout.proofs.Cases.{text, hex, run, headed, onieAs, onieOf, noEntries, bare, field, keyedField, refuses, misses, nowhere, unwritten}
-use Rattle.layout.proofs.Cases.{old, sayingBare, madeNumber, checking}
+use Rattle.layout.proofs.Cases.{old, older, sayingBare, madeNumber, checking}
 use Rattle.layout.proofs.Cases.{Case, checks, numbers, sweeps, lists, fills, entries, finds, values, strings, steps}
 use Rattle.layout.proofs.Cases.{writes, edits, unwrites, unedits, rounds, given, wanted}
 use Rattle.layout.proofs.CasesOnie.{board, block, longest, date}
@@ -59,10 +58,6 @@ boardRecords =
     ∷ bare 0xFD 1277 22 24 4 Plain
     ∷ bare 0xFD 1277 28 30 4 Plain
     ∷ []
-
--- another
-abbrev pub older : Entry
-older = bare 1 2 3 4 5 Text
 
 -- the values of the longest image, and its fields with n bytes for the last one
 abbrev pub longValues : List ℕ

@@ -11,10 +11,6 @@ use Rattle.layout.specs.Bytes.{sameBytes, part, refusal}
 use Rattle.layout.specs.Onie.{tlvInfo, declared, onieOpened}
 
 module _ (s : List ℕ) where
-  pub short : length s < 11 → onieOpened s ≡ Closed (refusal 3 0)
-  unfolding onieOpened
-  short lt = rw (lt-ltb (length s) 11 lt)
-
   module _ (long : 11 ≤ length s) where
     pub another : sameBytes (part 0 8 s) tlvInfo ≡ false → onieOpened s ≡ Closed (refusal 3 0)
     unfolding onieOpened

@@ -202,14 +202,9 @@ pub fn onie_reading(code: u32, v: &[u8]) -> Reading
 pub fn onie_sealed(image: &[u8], p: usize) -> bool
     ensures { λ r. ⌜ r ≡ sealed onie (now (image .entry)) p ⌝ }
 {
-    if image.len() < 6 {
+    if image.len() < p {
         return false;
     }
-    if image.len() - 6 < p {
-        return false;
-    }
-    let at = p + 2;
-    let end = at + 4;
     let c = crc::check32_closed(&image[..p], 0xFE, 0x04);
     let check = [
         (c / 16777216) as u8,
@@ -217,5 +212,5 @@ pub fn onie_sealed(image: &[u8], p: usize) -> bool
         (c / 256 % 256) as u8,
         (c % 256) as u8,
     ];
-    parts::same_bytes(&image[at..end], &check)
+    parts::is_stored(image, p + 2, &check)
 }

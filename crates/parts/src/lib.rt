@@ -1,6 +1,7 @@
 // What the readers of several formats do alike: parts of bytes, numbers in them, and entries of one code byte.
 ghost use mathlib.Core.Path.{_≡_};
 ghost use Prim.Native.Nat.{_+_, _-_, _^_, _≤_, _<_};
+ghost use lib.ListN.{length};
 ghost use lib.Dec.{leb};
 ghost use Rattle.layout.specs.Bytes.{all, between, sameBytes, part, highFirst, refusal};
 ghost use Rattle.layout.specs.Shape.{byteLength, codedHead};
@@ -149,6 +150,19 @@ pub fn same_bytes(x: &[u8], y: &[u8]) -> bool
         i += 1;
     }
     true
+}
+
+// Whether the bytes from `at` on, as many as a check has, are the check.
+pub fn is_stored(image: &[u8], at: usize, check: &[u8]) -> bool
+    ensures { λ r. ⌜ r ≡ sameBytes (part at (length (now (check .entry))) (now (image .entry))) (now (check .entry)) ⌝ }
+{
+    if image.len() <= at {
+        return check.len() == 0;
+    }
+    if image.len() - at < check.len() {
+        return false;
+    }
+    same_bytes(&image[at..at + check.len()], check)
 }
 
 // Whether every byte is one of low to high.

@@ -18,7 +18,7 @@ use Rattle.laws.proofs.Choices.{false-true, both}
 use Rattle.promises.specs.Words.{KnownEdition}
 use Rattle.promises.specs.Names.{One, Two, Named, sinceOne, sinceTwo, sinceThree, vpd01, tiny01, tiny10, tiny11, tiny60, tiny61, tiny62, vpdFE, tiny80, tiny81, onie21, onie22, onie23, onie24, onie25, onie2A, onie2B, onie2C, onie2D, onieFD}
 
--- ---- what 01 names, the table names
+-- ---- what 01 and 02 name, the table names
 
 pub named-names : (g : Format) (e c : ℕ) → Named g e c → names (shape g) e c ≡ true
 unfolding names sinceIn fboss vpd tiny onie
@@ -46,7 +46,7 @@ named-names Onie e c (sinceThree le onie2C) = le-leb 3 e le
 named-names Onie e c (sinceThree le onie2D) = le-leb 3 e le
 named-names Onie e c (sinceThree le onieFD) = le-leb 3 e le
 
--- ---- what the table names, 01 names
+-- ---- what the table names, 01 or 02 names
 
 -- a number of a to b
 pub in-range : (a b c : ℕ) → between a b c ≡ true → (a ≤ c) × (c ≤ b)

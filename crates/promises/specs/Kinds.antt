@@ -1,4 +1,4 @@
--- Kind and reading (demand 2): every record's kind is format × 256 + code exactly where its edition names the code, and its reading is that of 01's line on the code.
+-- Kind and reading (demand 2): every record's kind is format × 256 + code exactly where its edition names the code, and its reading is that of 01's or 02's line on the code.
 -- Assumes nothing.
 use Prim.Native.Nat.{ℕ, _+_, _*_, _≤_}
 use mathlib.Core.Path.{_≡_}

@@ -1,4 +1,4 @@
--- Promise 4, older reads (demand 3): what a newer edition accepts, an older one accepts, and both give the same codes, keys and values.
+-- Promise 4, older reads (demand 3): what a newer edition accepts, an older one that has the format accepts, and both give the same codes, keys and values.
 -- Assumes nothing.
 use Prim.Native.Nat.{ℕ, _≤_}
 use mathlib.Core.Path.{_≡_}

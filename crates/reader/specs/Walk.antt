@@ -2,7 +2,7 @@
 -- Assumes nothing.
 use Prim.Native.Nat.{ℕ}
 use mathlib.Core.List.{List}
-use Rattle.layout.specs.Calls.{Step, stepFrom}
+use Rattle.layout.specs.Calls.{stepFrom}
 use Rattle.reader.specs.declared.Walk.{Walk}
 use Rattle.reader.specs.declared.Stepped.{Stepped}
 

@@ -266,7 +266,7 @@ fn switch() -> Board {
 
 /// An ONIE image of the longest size with as many entries as there can be, of two bytes each, and an
 /// empty serial number in the middle, which the edit leaves empty. Its unnamed entries can't be
-/// written, so the write is of the most fields that fit: 340 vendor extensions and an empty name.
+/// written, so the write is of as many vendor extensions as fit, 340, and an empty name.
 fn full_onie() -> Board {
     let mut entries = vec![Entry::new(0x30, vec![]); 1_020];
     entries.insert(510, Entry::new(0x23, vec![]));

@@ -1,12 +1,11 @@
 -- `frames::part_of` meets its contract: a part past the end is empty, and one that runs past it is cut off.
 -- Assumes nothing.
 use borrow.Author.Needs.{needs}
-use Prim.Native.Nat.{ℕ, _+_, _-_, _≤_, _<_}
-use mathlib.Core.Path.{_≡_, refl, ap, sym, _∙_}
+use Prim.Native.Nat.{ℕ, _+_, _-_}
+use mathlib.Core.Path.{_≡_, ap, sym, _∙_}
 use native.Mathlib.Omega.{arith}
 use denote.Ref.{now}
 use lib.ListN.{length, take, drop, length-drop}
-use mathlib.Core.List.{List, []}
 use lib.Seq.{take-all, take-nil}
 use lib.ListN.{drop-of-length-le}
 use Rattle.layout.specs.Bytes.{part}

@@ -7,7 +7,6 @@ use native.Mathlib.Omega.{arith}
 use borrow.Author.Needs.{needs}
 use denote.Ref.{now}
 use lib.ListN.{length}
-use Rattle.layout.specs.Shape.{Shape}
 use Rattle.layout.specs.Editions.{shape}
 use Rattle.layout.specs.Write.{fieldKey, fieldsIn}
 use Rattle.keys.specs.Filter.{mayRepeat, withKey}
