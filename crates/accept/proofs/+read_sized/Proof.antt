@@ -1,6 +1,6 @@
 -- `accept::read_sized` meets its contract: it calls itself with a filter that is large enough. The measure is what the filter lacks of the size that it calls itself with.
 -- Assumes nothing.
-use Prim.Native.Nat.{ℕ, _-_}
+use Prim.Native.Nat.{ℕ, _-_, _<_}
 use borrow.Author.Needs.{needs}
 use denote.Ref.{now}
 use lib.ListN.{length}
