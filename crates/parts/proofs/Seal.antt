@@ -23,8 +23,13 @@ pub none-stored : (image check : List ℕ) (at : ℕ) → length image ≤ at �
 unfolding part
 none-stored image check at le = rw (drop-of-length-le image le, take-nil) (same-none check)
 
+-- A part that the image cuts short is not the check.
+pub cut-short : (image check : List ℕ) (at : ℕ) → 0 < length check → length image < at + length check → false ≡ sameBytes (part at (length check) image) check
+unfolding part
+cut-short image check at some short = unlike same-pairs _ _ (λ e. omega (arith, simp (length-take, length-drop) at e))
+
 -- No check is stored where too few bytes follow the entries.
 pub unsealed : (S : Shape) (image : List ℕ) (p : ℕ) → 0 < length (S .check (take p image)) →
     length image < checkPlace S p + length (S .check (take p image)) → false ≡ sealed S image p
-unfolding sealed part
-unsealed S image p some short = unlike same-pairs _ _ (λ e. omega (arith, simp (length-take, length-drop) at e))
+unfolding sealed
+unsealed S image p some short = cut-short image (S .check (take p image)) (checkPlace S p) some short

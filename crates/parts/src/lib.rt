@@ -1,4 +1,4 @@
-// What the readers of several formats do alike: parts of bytes, numbers in them, and entries of one code byte.
+// What the readers of several formats do alike: parts of bytes, numbers and checks in them, and entries of one code byte.
 ghost use mathlib.Core.Path.{_≡_};
 ghost use Prim.Native.Nat.{_+_, _-_, _^_, _≤_, _<_};
 ghost use lib.ListN.{length};

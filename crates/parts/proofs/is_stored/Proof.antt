@@ -2,12 +2,10 @@
 -- Assumes nothing.
 use native.Mathlib.Nat.{add-sub-cancel-left}
 use native.Mathlib.Omega.{arith}
-use lib.ListN.{length-take, length-drop}
 use borrow.Author.Needs.{needs}
 use denote.Ref.{now}
 use Rattle.layout.specs.Bytes.{part}
-use Rattle.parts.proofs.Loops.{same-pairs, unlike}
-use Rattle.parts.proofs.Seal.{none-stored}
+use Rattle.parts.proofs.Seal.{none-stored, cut-short}
 use Rattle.parts.proofs.is_stored.Statement.{statement}
 use Rattle.parts.proofs.is_stored.Tie as tie
 
@@ -20,8 +18,9 @@ sub-if2 : tie.Need-sub-if2
 sub-if2 c = search needs
 
 returns-2 : tie.Need-returns-2
-unfolding part
-returns-2 c = unlike same-pairs _ _ (λ e. omega (arith, simp (length-take, length-drop) at e))
+returns-2 c =
+    let a = c .before .before .before .before .args in
+    cut-short (now (a .image)) (now (a .check)) (a .at) (omega arith) (omega arith)
 
 add-same-bytes : tie.Need-add-same-bytes
 add-same-bytes c = search needs
