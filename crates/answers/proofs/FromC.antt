@@ -24,7 +24,7 @@ use Rattle.layout.specs.declared.Lookup.the-variants.{Found, Missing}
 use Rattle.layout.specs.Bytes.{if, between, all, oneOf, part, partAt}
 use Rattle.layout.specs.Walk.{Content}
 use Rattle.layout.specs.Calls.{Told, toldRefusal, toldChecked, toldLookup, toldReading, checkImage, entryAt, moved, stepFrom}
-use Rattle.layout.specs.Write.{word, fieldAt, fields, fieldsIn, writeImage, toldMade}
+use Rattle.layout.specs.Write.{word, fieldAt, items, fieldsIn, writeImage, toldMade}
 use Rattle.layout.specs.Edit.{editEntry}
 use Rattle.records.specs.Packed.{packed}
 use Rattle.records.specs.Words.{wordsBytes, readingWords, recordWords}
@@ -138,8 +138,8 @@ field-back x t fits =
     = (λ k lt. word-before s t (k * 4) (omega (arith, length-fields x)) ∙ words-back (fieldWords x) k fits (omega arith)) in
     rw (back 0 (omega arith), back 1 (omega arith), back 2 (omega arith), back 3 (omega arith), back 4 (omega arith))
 
-fields-back : (n : ℕ) (xs : List Field) (cut : List ℕ) → Each (λ x. Each (λ w. w < 4294967296) (fieldWords x)) xs → length cut < 20 → length (fieldsBytes xs ++ cut) ≤ n → fields n (fieldsBytes xs ++ cut) ≡ xs
-unfolding fields
+fields-back : (n : ℕ) (xs : List Field) (cut : List ℕ) → Each (λ x. Each (λ w. w < 4294967296) (fieldWords x)) xs → length cut < 20 → length (fieldsBytes xs ++ cut) ≤ n → items 20 fieldAt n (fieldsBytes xs ++ cut) ≡ xs
+unfolding items
 fields-back zero [] cut none lt le = refl
 fields-back (suc n) [] cut none lt le = rw (lt-ltb (length cut) 20 lt)
 fields-back zero (x ∷ xs) cut (andAlso p ps) lt le =

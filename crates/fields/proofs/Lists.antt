@@ -12,42 +12,43 @@ use lib.ListN.{length, getD, take, drop, length-drop, List·getD-eq-default}
 use lib.Seq.{getD-drop, drop-drop, take-suc}
 use lib.Dec.{ltb}
 use Rattle.layout.specs.Bytes.{partAt}
-use Rattle.layout.specs.Write.{word, fieldAt, fields, fieldsIn}
+use Rattle.layout.specs.Write.{word, fieldAt, items, fieldsIn}
 
 -- A field's numbers, by their places in the list.
 pub field-words : (n : ℕ) (s : List ℕ) →
     fieldAt (drop n s) ≡ record { code = word n s; key = partAt (word (n + 4) s) (word (n + 4 + 4) s); value = partAt (word (n + 12) s) (word (n + 12 + 4) s) }
 field-words n s = simp (getD-drop, add-assoc, add-zero)
 
--- ---- with enough fuel
+-- ---- items of so many bytes each, with enough fuel
 
-fields-none : (n : ℕ) (s : List ℕ) → length s < 20 → fields n s ≡ []
-unfolding fields
-fields-none zero s lt = refl
-fields-none (suc n) s lt = rw (lt-ltb (length s) 20 lt)
+module _ {A : Type 0} (size : ℕ) (read : List ℕ → A) where
+  pub items-none : (n : ℕ) (s : List ℕ) → length s < size → items size read n s ≡ []
+  unfolding items
+  items-none zero s lt = refl
+  items-none (suc n) s lt = rw (lt-ltb (length s) size lt)
 
-fields-more : (n : ℕ) (s : List ℕ) → 20 ≤ length s → fields (suc n) s ≡ fieldAt s ∷ fields n (drop 20 s)
-unfolding fields
-fields-more n s le = rw (le-ltb (length s) 20 le)
+  pub items-more : (n : ℕ) (s : List ℕ) → size ≤ length s → items size read (suc n) s ≡ read s ∷ items size read n (drop size s)
+  unfolding items
+  items-more n s le = rw (le-ltb (length s) size le)
 
-length-fields : (n : ℕ) (s : List ℕ) → length s ≤ n → length (fields n s) ≡ length s / 20
-length-fields zero s le = rw (fields-none zero s (omega arith)) (omega arith)
+length-fields : (n : ℕ) (s : List ℕ) → length s ≤ n → length (items 20 fieldAt n s) ≡ length s / 20
+length-fields zero s le = rw (items-none 20 fieldAt zero s (omega arith)) (omega arith)
 length-fields (suc n) s le = go (ltb (length s) 20) refl (length-fields n (drop 20 s))
   where
-    go : (t : Bool) → ltb (length s) 20 ≡ t → (length (drop 20 s) ≤ n → length (fields n (drop 20 s)) ≡ length (drop 20 s) / 20) → length (fields (suc n) s) ≡ length s / 20
-    go true e rest = rw (fields-none (suc n) s (ltb-true (length s) 20 e)) (omega (arith, ltb-true (length s) 20 e))
+    go : (t : Bool) → ltb (length s) 20 ≡ t → (length (drop 20 s) ≤ n → length (items 20 fieldAt n (drop 20 s)) ≡ length (drop 20 s) / 20) → length (items 20 fieldAt (suc n) s) ≡ length s / 20
+    go true e rest = rw (items-none 20 fieldAt (suc n) s (ltb-true (length s) 20 e)) (omega (arith, ltb-true (length s) 20 e))
     go false e rest =
         let h : 20 ≤ length s = ltb-false (length s) 20 e in
         let l : length (drop 20 s) ≡ length s - 20 = length-drop 20 s in
-        rw (fields-more n s h) (omega (arith, rest (omega arith)))
+        rw (items-more 20 fieldAt n s h) (omega (arith, rest (omega arith)))
 
-field-of : (n : ℕ) (s : List ℕ) (i : ℕ) → length s ≤ n → i * 20 + 20 ≤ length s → getD (fields n s) i (fieldAt []) ≡ fieldAt (drop (i * 20) s)
+field-of : (n : ℕ) (s : List ℕ) (i : ℕ) → length s ≤ n → i * 20 + 20 ≤ length s → getD (items 20 fieldAt n s) i (fieldAt []) ≡ fieldAt (drop (i * 20) s)
 field-of zero s i le lt = absurd (omega arith)
-field-of (suc n) s zero le lt = rw (fields-more n s (omega arith))
+field-of (suc n) s zero le lt = rw (items-more 20 fieldAt n s (omega arith))
 field-of (suc n) s (suc i) le lt =
     let l : length (drop 20 s) ≡ length s - 20 = length-drop 20 s in
     let k : 20 + i * 20 ≡ suc i * 20 = omega arith in
-    rw (fields-more n s (omega arith)) (field-of n (drop 20 s) i (omega arith) (omega arith) ∙ rw (drop-drop (i * 20) 20 s, k))
+    rw (items-more 20 fieldAt n s (omega arith)) (field-of n (drop 20 s) i (omega arith) (omega arith) ∙ rw (drop-drop (i * 20) 20 s, k))
 
 -- ---- all fields
 

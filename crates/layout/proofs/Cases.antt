@@ -37,7 +37,7 @@ use Rattle.layout.specs.Walk.{Content, content, walks, walk}
 use Rattle.layout.specs.Read.{sealed, seenBefore, readerRule, fault, judge, complete, Read, accepted, refused, readAs, readImage}
 use Rattle.layout.specs.Calls.{Listed, Step, entryOf, entriesOf, entriesIn, checkImage, listEntries, nth, entryAt, bytesAt, verdict, valueAt}
 use Rattle.layout.specs.Calls.{stepFrom, stringIn, poolString, stringAt, toldReading, Told}
-use Rattle.layout.specs.Write.{fields, fieldsIn, writerRule, fieldFault, judgeFields, entryBytes, entriesBytes, imageOf, put, writeAs, writeImage, Outcome}
+use Rattle.layout.specs.Write.{items, fieldsIn, writerRule, fieldFault, judgeFields, entryBytes, entriesBytes, imageOf, put, writeAs, writeImage, Outcome}
 use Rattle.layout.specs.Edit.{revalued, editedBytes, editRule, mayEdit, editEntry}
 
 -- ---- bytes, in short
@@ -304,7 +304,7 @@ unfolding check16Of check8Of check32Of mirror checkOf byteIn singleBit all oneOf
     onie onieOpened onieFilled onieCheck formed onieRule onieReading
     chosen sinceIn names kind content walks walk sealed seenBefore readerRule fault judge complete readAs readImage
     entryOf entriesOf entriesIn checkImage listEntries nth entryAt valueAt stepFrom stringIn poolString stringAt toldReading
-    fields fieldsIn writerRule fieldFault judgeFields entryBytes entriesBytes imageOf put writeAs writeImage
+    items fieldsIn writerRule fieldFault judgeFields entryBytes entriesBytes imageOf put writeAs writeImage
     revalued editedBytes editRule mayEdit editEntry
 given (check16 s answer) = number (check16Of s)
 given (check8 s answer) = number (check8Of 0 s)

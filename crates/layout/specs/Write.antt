@@ -20,7 +20,7 @@ use Rattle.layout.specs.Walk.{Content, labelOf}
 use Rattle.layout.specs.Read.{limit, seenBefore, orElse, complete}
 use Rattle.layout.specs.Calls.{Told, told, toldRefusal}
 
--- ---- fields in lent bytes
+-- ---- numbers and fields in lent bytes
 
 -- the number at place a of s, four bytes, low byte first
 abbrev pub word : ℕ → List ℕ → ℕ
@@ -29,14 +29,18 @@ word a s = getD s a 0 + getD s (a + 1) 0 * 256 + getD s (a + 2) 0 * 65536 + getD
 abbrev pub fieldAt : List ℕ → Field
 fieldAt s = record { code = word 0 s; key = partAt (word 4 s) (word 8 s); value = partAt (word 12 s) (word 16 s) }
 
--- at most n fields of s, 20 bytes for each
-unfoldable pub fields : ℕ → List ℕ → List Field
-fields zero s = []
-fields (suc n) s = if (ltb (length s) 20) (λ _. []) (λ _. fieldAt s ∷ fields n (drop 20 s))
+-- at most n items of s, so many bytes for each, where `read` takes one from the front
+unfoldable pub items : {A : Type 0} → ℕ → (List ℕ → A) → ℕ → List ℕ → List A
+items size read zero s = []
+items size read (suc n) s = if (ltb (length s) size) (λ _. []) (λ _. read s ∷ items size read n (drop size s))
 
--- all fields of s; a last one that is cut short counts as none
+-- all items of s; a last one that is cut short counts as none
+abbrev pub itemsIn : {A : Type 0} → ℕ → (List ℕ → A) → List ℕ → List A
+itemsIn size read s = items size read (length s) s
+
+-- all fields of s, 20 bytes for each
 unfoldable pub fieldsIn : List ℕ → List Field
-fieldsIn s = fields (length s) s
+fieldsIn s = itemsIn 20 fieldAt s
 
 -- ---- a field
 

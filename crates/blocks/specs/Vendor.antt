@@ -1,0 +1,87 @@
+-- The two calls for vendor blocks (02, "Vendor blocks for the optics lab").
+-- Assumes nothing.
+use Prim.Native.Nat.{ℕ}
+use mathlib.Core.List.{List, [], _∷_, _++_, map}
+use mathlib.Core.Bool.{Bool, _||_}
+use lib.ListN.{length, drop}
+use lib.Dec.{ltb, leb, eqb}
+use Rattle.layout.specs.declared.Refusal.{Refusal}
+use Rattle.layout.specs.declared.Chosen.{Chosen}
+use Rattle.layout.specs.declared.Chosen.the-variants.{Known, Unknown}
+use Rattle.layout.specs.declared.Made.the-variants.{Wrote}
+use Rattle.layout.specs.Bytes.{if, partAt, refusal}
+use Rattle.layout.specs.Editions.{chosen}
+use Rattle.layout.specs.Walk.{Content, content}
+use Rattle.layout.specs.Read.{limit, Read, accepted, refused, readAs}
+use Rattle.layout.specs.Calls.{Told, told, toldRefusal}
+use Rattle.layout.specs.Write.{word, itemsIn, Outcome, refuse}
+use Rattle.blocks.specs.declared.Offsets.{Offsets}
+use Rattle.blocks.specs.declared.Said.{Said}
+use Rattle.blocks.specs.declared.Said.the-variants.{Says, Wrong}
+use Rattle.blocks.specs.declared.Vended.{Vended}
+use Rattle.blocks.specs.declared.Vended.the-variants.{Tells, Unread}
+use Rattle.blocks.specs.Payload.{matching, joined, payloadSays, payloadOf, cutInto, writable}
+
+-- ---- read
+
+-- the answer of a read, and what the lent buffer then is
+pub record Taking : Type 0 where
+  pub answer : Vended
+  pub memory : List ℕ
+
+abbrev pub untaken : Refusal → List ℕ → Taking
+untaken r buffer = record { answer = Unread r; memory = buffer }
+
+-- the payload goes to the buffer's front, and the bytes past it stay; 12 where it does not fit
+abbrev pub taking : Said → List ℕ → List ℕ → Taking
+taking (Says b) payload buffer =
+    if (leb (length payload) (length buffer))
+    (λ _. record { answer = Tells (length payload) b; memory = payload ++ drop (length payload) buffer })
+    (λ _. untaken (refusal 12 0) buffer)
+taking (Wrong n) payload buffer = untaken (refusal n 0) buffer
+
+-- 17 where no entry matches; then what the payload comes to
+abbrev pub takeMatching : List Content → List ℕ → Taking
+takeMatching [] buffer = untaken (refusal 17 0) buffer
+takeMatching (c ∷ cs) buffer = taking (payloadSays (joined (c ∷ cs))) (joined (c ∷ cs)) buffer
+
+abbrev pub takeRead : Read → List ℕ → Taking
+takeRead (accepted f start rs) buffer = takeMatching (matching (map content rs)) buffer
+takeRead (refused r) buffer = untaken r buffer
+
+abbrev pub takeChosen : Chosen → ℕ → List ℕ → List ℕ → Taking
+takeChosen (Known f) e img buffer =
+    if (ltb limit (length img) || ltb limit (length buffer)) (λ _. untaken (refusal 2 0) buffer) (λ _. takeRead (readAs f e img) buffer)
+takeChosen (Unknown n) e img buffer = untaken (refusal n 0) buffer
+
+-- 16 for any format but 4; 1, and 16 for an edition that does not have it; 2 (image or buffer), the image's own refusals, then 17 to 20, 12
+unfoldable pub readVendor : ℕ → ℕ → List ℕ → List ℕ → Taking
+readVendor f e img buffer = if (eqb f 4) (λ _. takeChosen (chosen f e) e img buffer) (λ _. untaken (refusal 16 0) buffer)
+
+abbrev pub toldVended : Vended → Told
+toldVended (Tells n b) = told n (partAt 0 0) []
+toldVended (Unread r) = toldRefusal r
+
+-- ---- write
+
+-- piece lengths in lent bytes, four bytes for each, low byte first; a last one that is cut short counts as none
+unfoldable pub piecesIn : List ℕ → List ℕ
+piecesIn s = itemsIn 4 (word 0) s
+
+-- the values go to the output's front, and the bytes past them stay; 12 where they do not fit
+abbrev pub putValues : List ℕ → List ℕ → Outcome
+putValues values out =
+    if (leb (length values) (length out))
+    (λ _. record { answer = Wrote (length values); memory = values ++ drop (length values) out })
+    (λ _. refuse (refusal 12 0) out)
+
+abbrev pub putChosen : Chosen → List ℕ → Offsets → List ℕ → List ℕ → Outcome
+putChosen (Known f) serial o pieces out =
+    if (ltb limit (length out))
+    (λ _. refuse (refusal 2 0) out)
+    (λ _. if (writable serial pieces) (λ _. putValues (cutInto pieces (payloadOf serial o)) out) (λ _. refuse (refusal 18 0) out))
+putChosen (Unknown n) serial o pieces out = refuse (refusal n 0) out
+
+-- 16 for any format but 4; 1, and 16 for an edition that does not have it; 2 (output), then 18, 12
+unfoldable pub writeVendor : ℕ → ℕ → List ℕ → Offsets → List ℕ → List ℕ → Outcome
+writeVendor f e serial o pieces out = if (eqb f 4) (λ _. putChosen (chosen f e) serial o pieces out) (λ _. refuse (refusal 16 0) out)
