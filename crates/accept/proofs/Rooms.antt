@@ -31,6 +31,7 @@ pub record Took (f e : ℕ) (image : List ℕ) (room : TakenRoom) : Type 0 where
   pub known : chosen f e ≡ Known (room .format)
   pub counts : room .count ≡ length entries
   pub over : room .over ≡ room .start + length (flat entries)
+  pub opens : shape (room .format) .opened image ≡ Room (room .start) (room .end)
   pub walks : walked (room .format) image (room .start) (room .end) ≡ done entries (room .over)
   pub bound : room .start ≤ room .end
   pub inside : room .end ≤ length image
@@ -58,6 +59,7 @@ took f e image room q = go (readImage f e image) refl q
           known = m .known;
           counts = refl;
           over = refl;
+          opens = opens;
           walks =
               ap (λ (s : ℕ). walked g image s (h .end)) (w .starts)
               ∙ ap (walk (shape g) false H) (h .room)

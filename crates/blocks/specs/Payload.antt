@@ -55,7 +55,7 @@ measured s = eqb (length s) (1 + serialLength s + 2 + blockLength s + 4)
 
 -- the last four bytes are ONIE's CRC-32 over all before them, high byte first
 unfoldable pub checked : List ℕ → Bool
-checked s = sameBytes (drop (length s - 4) s) (fourBytes (check32Of (take (length s - 4) s)))
+checked s = sameBytes (part (length s - 4) 4 s) (fourBytes (check32Of (take (length s - 4) s)))
 
 -- the block is that of a dual-band amplifier: nine bytes, version 00 and eight offsets
 unfoldable pub amplifier : List ℕ → Bool

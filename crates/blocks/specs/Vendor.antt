@@ -2,7 +2,6 @@
 -- Assumes nothing.
 use Prim.Native.Nat.{ℕ}
 use mathlib.Core.List.{List, [], _∷_, _++_, map}
-use mathlib.Core.Bool.{Bool, _||_}
 use lib.ListN.{length, drop}
 use lib.Dec.{ltb, leb, eqb}
 use Rattle.layout.specs.declared.Refusal.{Refusal}
@@ -12,7 +11,7 @@ use Rattle.layout.specs.declared.Made.the-variants.{Wrote}
 use Rattle.layout.specs.Bytes.{if, partAt, refusal}
 use Rattle.layout.specs.Editions.{chosen}
 use Rattle.layout.specs.Walk.{Content, content}
-use Rattle.layout.specs.Read.{limit, Read, accepted, refused, readAs}
+use Rattle.layout.specs.Read.{limit, Read, accepted, refused, readImage}
 use Rattle.layout.specs.Calls.{Told, told, toldRefusal}
 use Rattle.layout.specs.Write.{word, itemsIn, Outcome, refuse}
 use Rattle.blocks.specs.declared.Offsets.{Offsets}
@@ -21,6 +20,16 @@ use Rattle.blocks.specs.declared.Said.the-variants.{Says, Wrong}
 use Rattle.blocks.specs.declared.Vended.{Vended}
 use Rattle.blocks.specs.declared.Vended.the-variants.{Tells, Unread}
 use Rattle.blocks.specs.Payload.{matching, joined, payloadSays, payloadOf, cutInto, writable}
+
+-- ---- what both calls ask first
+
+abbrev pub askChosen : Chosen → ℕ → Chosen
+askChosen (Known f) lent = if (ltb limit lent) (λ _. Unknown 2) (λ _. Known f)
+askChosen (Unknown n) lent = Unknown n
+
+-- 16 for any format but 4; 1, and 16 for an edition that does not have it; 2 where too many bytes are lent to be written
+unfoldable pub asked : ℕ → ℕ → ℕ → Chosen
+asked f e lent = if (eqb f 4) (λ _. askChosen (chosen f e) lent) (λ _. Unknown 16)
 
 -- ---- read
 
@@ -49,14 +58,13 @@ abbrev pub takeRead : Read → List ℕ → Taking
 takeRead (accepted f start rs) buffer = takeMatching (matching (map content rs)) buffer
 takeRead (refused r) buffer = untaken r buffer
 
-abbrev pub takeChosen : Chosen → ℕ → List ℕ → List ℕ → Taking
-takeChosen (Known f) e img buffer =
-    if (ltb limit (length img) || ltb limit (length buffer)) (λ _. untaken (refusal 2 0) buffer) (λ _. takeRead (readAs f e img) buffer)
-takeChosen (Unknown n) e img buffer = untaken (refusal n 0) buffer
+abbrev pub takeAsked : Chosen → ℕ → ℕ → List ℕ → List ℕ → Taking
+takeAsked (Known g) f e img buffer = takeRead (readImage f e img) buffer
+takeAsked (Unknown n) f e img buffer = untaken (refusal n 0) buffer
 
--- 16 for any format but 4; 1, and 16 for an edition that does not have it; 2 (image or buffer), the image's own refusals, then 17 to 20, 12
+-- what both ask, of the buffer; 2 for the image and the image's own refusals; then 17 to 20, 12
 unfoldable pub readVendor : ℕ → ℕ → List ℕ → List ℕ → Taking
-readVendor f e img buffer = if (eqb f 4) (λ _. takeChosen (chosen f e) e img buffer) (λ _. untaken (refusal 16 0) buffer)
+readVendor f e img buffer = takeAsked (asked f e (length buffer)) f e img buffer
 
 abbrev pub toldVended : Vended → Told
 toldVended (Tells n b) = told n (partAt 0 0) []
@@ -75,13 +83,11 @@ putValues values out =
     (λ _. record { answer = Wrote (length values); memory = values ++ drop (length values) out })
     (λ _. refuse (refusal 12 0) out)
 
-abbrev pub putChosen : Chosen → List ℕ → Offsets → List ℕ → List ℕ → Outcome
-putChosen (Known f) serial o pieces out =
-    if (ltb limit (length out))
-    (λ _. refuse (refusal 2 0) out)
-    (λ _. if (writable serial pieces) (λ _. putValues (cutInto pieces (payloadOf serial o)) out) (λ _. refuse (refusal 18 0) out))
-putChosen (Unknown n) serial o pieces out = refuse (refusal n 0) out
+abbrev pub putAsked : Chosen → List ℕ → Offsets → List ℕ → List ℕ → Outcome
+putAsked (Known g) serial o pieces out =
+    if (writable serial pieces) (λ _. putValues (cutInto pieces (payloadOf serial o)) out) (λ _. refuse (refusal 18 0) out)
+putAsked (Unknown n) serial o pieces out = refuse (refusal n 0) out
 
--- 16 for any format but 4; 1, and 16 for an edition that does not have it; 2 (output), then 18, 12
+-- what both ask, of the output; then 18, 12
 unfoldable pub writeVendor : ℕ → ℕ → List ℕ → Offsets → List ℕ → List ℕ → Outcome
-writeVendor f e serial o pieces out = if (eqb f 4) (λ _. putChosen (chosen f e) serial o pieces out) (λ _. refuse (refusal 16 0) out)
+writeVendor f e serial o pieces out = putAsked (asked f e (length out)) serial o pieces out

@@ -32,7 +32,7 @@ pub record Has (g : Format) (e : ℕ) : Type 0 where
   pub known : knownEdition e ≡ true
   pub since : leb (shape g .edition) e ≡ true
 
-with-known : (e : ℕ) (f g : Format) → withEdition e f ≡ Known g → (f ≡ g) × Has g e
+pub with-known : (e : ℕ) (f g : Format) → withEdition e f ≡ Known g → (f ≡ g) × Has g e
 with-known e f g q = go (knownEdition e) (leb (shape f .edition) e) refl refl q
   where
     go : (b c : Bool) → knownEdition e ≡ b → leb (shape f .edition) e ≡ c → if b (λ _. if c (λ _. Known f) (λ _. Unknown 16)) (λ _. Unknown 1) ≡ Known g → (f ≡ g) × Has g e

@@ -29,8 +29,8 @@ pub fn byte_of(z: i8) -> u8
 }
 
 // Byte i, and 0 where it is not there.
-fn byte_at(s: &[u8], i: usize) -> u8
-    ensures { λ r. ⌜ (r ≡ getD (now (s .entry)) i 0) ⌝ }
+pub fn byte_at(s: &[u8], i: usize) -> u8
+    ensures { λ r. ⌜ r ≡ getD (now (s .entry)) i 0 ⌝ }
 {
     if i < s.len() {
         return s[i];

@@ -28,7 +28,7 @@ use Rattle.frames.proofs.Spots.{Sized, Spotted, spot-walked}
 use Rattle.reader.proofs.Lying.{Lies, rawAt, framed-lies, value-at}
 
 -- the entry that a frame was read for
-onward-raw : (g : Format) (image : List ℕ) (end p : ℕ) (shut : Bool) (f : Frame) (w : Passing (shape g) (grammar g) image end p shut) (q : next (shape g) shut (part p (end - p) image) ≡ Framed f) →
+pub onward-raw : (g : Format) (image : List ℕ) (end p : ℕ) (shut : Bool) (f : Frame) (w : Passing (shape g) (grammar g) image end p shut) (q : next (shape g) shut (part p (end - p) image) ≡ Framed f) →
     pass-on (laws g) image end p shut f w q .raw ≡ rawAt image p f
 onward-raw g image end p shut f w q =
     pass-on (laws g) image end p shut f w q .isRawOf ∙ ap (λ (bs : List ℕ). record { bytes = bs; frame = f }) (framed-lies g shut image p end f q .is)

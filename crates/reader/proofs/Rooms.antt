@@ -6,9 +6,8 @@ use mathlib.Core.List.{List, [], _∷_, _++_}
 use mathlib.Core.Bool.{Bool, false}
 use native.Mathlib.Omega.{arith}
 use lib.ListN.{length, length-append}
-use borrow.Author.Tests.{eqb-true}
 use Rattle.layout.specs.declared.Format.{Format}
-use Rattle.layout.specs.declared.Format.the-variants.{Fboss, Vpd, Tiny, Onie}
+use Rattle.layout.specs.declared.Format.the-variants.{Tiny}
 use Rattle.layout.specs.declared.Chosen.the-variants.{Known}
 use Rattle.layout.specs.declared.Entry.{Entry}
 use Rattle.layout.specs.declared.Lookup.the-variants.{Found}
@@ -23,19 +22,14 @@ use Rattle.laws.proofs.Format.{Laws}
 use Rattle.laws.proofs.Formats.{laws}
 use Rattle.laws.proofs.Frames.{raw-size, raw-some}
 use Rattle.laws.proofs.Walking.{Frames}
-use Rattle.laws.proofs.Calls.{Stands, one, two, three, four, chosen-stands, accepted-reading}
+use Rattle.laws.proofs.Calls.{with-known, accepted-reading}
 use Rattle.accept.specs.declared.Room.{Room as TakenRoom}
 use Rattle.accept.proofs.Rooms.{Took}
 
 -- format number 3 is Tiny
 three-tiny : (f e : ℕ) (g : Format) → f ≡ 3 → chosen f e ≡ Known g → g ≡ Tiny
-three-tiny f e g q k = go g (chosen-stands f e g k .0)
-  where
-    go : (h : Format) → Stands f h → h ≡ Tiny
-    go Fboss (one e₁) = absurd (omega (arith, eqb-true f 1 e₁))
-    go Vpd (two e₁ e₂) = absurd (omega (arith, eqb-true f 2 e₂))
-    go Tiny (three e₁ e₂ e₃) = refl
-    go Onie (four e₁ e₂ e₃ e₄) = absurd (omega (arith, eqb-true f 4 e₄))
+unfolding chosen
+three-tiny f e g q k = sym (with-known e Tiny g (ap (λ (x : ℕ). chosen x e) (sym q) ∙ k) .0)
 
 pub tiny-walks : (f e : ℕ) (image : List ℕ) (room : TakenRoom) → f ≡ 3 → (w : Took f e image room) → walked Tiny image (room .start) (room .end) ≡ done (w .entries) (room .over)
 tiny-walks f e image room q w = sym (ap (λ (g : Format). walked g image (room .start) (room .end)) (three-tiny f e (room .format) q (w .known))) ∙ w .walks

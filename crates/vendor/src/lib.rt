@@ -1,18 +1,17 @@
 // Vendor blocks: a payload that is split over FDh entries of an ONIE image is joined, judged and given, or made and cut into values.
 ghost use mathlib.Core.Path.{_≡_};
+ghost use mathlib.Core.Bool.{true};
 ghost use mathlib.Core.List.{List, [], map};
 ghost use Prim.Native.Nat.{ℕ, _+_, _≤_, _<_};
-ghost use lib.ListN.{length, drop, take};
+ghost use lib.ListN.{length, getD, drop, take};
 ghost use Rattle.layout.specs.Bytes.{if, part, sameBytes, refusal};
 ghost use Rattle.layout.specs.Walk.{content};
 ghost use Rattle.layout.specs.Read.{limit};
-ghost use Rattle.layout.specs.Editions.{chosen};
 ghost use Rattle.laws.specs.Passes.{walked, IsDone, rawsIn};
 ghost use Rattle.output.specs.Placing.{copied};
-ghost use Rattle.blocks.specs.Offset.{signed, signedByte, offsetsIn, offsetBytes};
-ghost use Rattle.blocks.specs.Payload.{prefix, matching, joined, checked, payloadSays, payloadOf, cutInto, sum};
-ghost use Rattle.blocks.specs.Vendor.{taking, readVendor, piecesIn, writeVendor};
-ghost use Rattle.vendor.specs.Pieces.{pieceOf, joinedBy, tooLongBy, countedBy};
+ghost use Rattle.blocks.specs.Payload.{matches, matching, joined, serialLength, blockLength, measured, checked, amplifier, blockOf, payloadSays, payloadOf, cutInto, sum};
+ghost use Rattle.blocks.specs.Vendor.{asked, taking, takeMatching, readVendor, piecesIn, writeVendor};
+ghost use Rattle.vendor.specs.Pieces.{joinedBy, countedBy};
 use accept::Taken;
 use blocks::Block;
 use blocks::Offsets;
@@ -50,27 +49,243 @@ fn at_zero(number: u32) -> Refusal
     }
 }
 
-// ---- offsets
+// ---- read
 
-// The number that a byte says.
-pub fn offset_of(b: u8) -> i8
-    ensures { λ r. ⌜ r ≡ signed b ⌝ }
+// Whether an entry of this code and value holds a piece of the payload.
+fn is_piece(code: u32, value: &[u8]) -> bool
+    ensures { λ r. ⌜ ((key : List ℕ) → r ≡ matches (record { code = code; key = key; value = now (value .entry) })) ⌝ }
 {
-    if b < 128 {
-        return b as i8;
+    if code != 0xFD {
+        return false;
     }
-    let below = 255 - b;
-    let n = below as i8;
-    -1 - n
+    let five = PREFIX;
+    parts::is_stored(value, 0, &five)
 }
 
-// The byte that says a number.
-pub fn byte_of(z: i8) -> u8
-    ensures { λ r. ⌜ r ≡ signedByte z ⌝ }
+// The bytes from `at` on.
+fn bytes_from(s: &[u8], at: usize) -> &[u8]
+    ensures { λ r. ⌜ now r ≡ drop at (now (s .entry)) ⌝ }
 {
-    if 0 <= z {
-        return z as u8;
+    if s.len() < at {
+        return &s[..0];
     }
-    let n = -1 - z;
-    255 - n as u8
+    &s[at..]
+}
+
+// The bytes that such an entry adds to the payload; none where it does not match.
+fn piece_of(is: bool, value: &[u8]) -> &[u8]
+    ensures { λ r. ⌜ now r ≡ if is (λ _. drop 5 (now (value .entry))) (λ _. []) ⌝ }
+{
+    if is {
+        return bytes_from(value, 5);
+    }
+    &value[..0]
+}
+
+// The pieces of all matching entries, one after another, from the front of `own` on.
+fn join(own: &mut [u8], image: &[u8], start: usize, end: usize) -> Joined
+    requires { ⌜ IsDone (walked Format.Onie (now image) start end) × (start ≤ end) × (end ≤ start + length (now own)) ⌝ }
+    ensures { λ r. ⌜ r ≡ joinedBy (matching (map content (rawsIn (walked Format.Onie (now (image .entry)) start end)))) ⌝ }
+    ensures { λ r. ⌜ now (own .exit) ≡ copied (now (own .entry)) 0 (joined (matching (map content (rawsIn (walked Format.Onie (now (image .entry)) start end))))) ⌝ }
+    ensures { λ r. ⌜ r .len ≤ length (now (own .entry)) ⌝ }
+{
+    let mut p = start;
+    let mut len: usize = 0;
+    let mut found = false;
+    loop {
+        let x = frames::next_frame(Format::Onie, false, image, p, end);
+        match x {
+            Next::Framed(f) => {
+                let value = frames::part_of(image, p + f.val, f.vlen);
+                let is = is_piece(f.code, value);
+                let piece = piece_of(is, value);
+                output::copy_at(own, len, piece);
+                len += piece.len();
+                found = found | is;
+                p += f.size;
+            }
+            Next::Ended => {
+                return Joined {
+                    found: found,
+                    len: len,
+                };
+            }
+            Next::Broken(_) => {
+                return Joined {
+                    found: found,
+                    len: len,
+                };
+            }
+        }
+    }
+}
+
+// Whether the last four bytes are the check over all before them.
+fn is_checked(payload: &[u8]) -> bool
+    ensures { λ r. ⌜ r ≡ checked (now (payload .entry)) ⌝ }
+{
+    if payload.len() < 4 {
+        return false;
+    }
+    let n = payload.len() - 4;
+    let c = crc::check32(&payload[..n]);
+    let check = [
+        (c / 16777216) as u8,
+        (c / 65536 % 256) as u8,
+        (c / 256 % 256) as u8,
+        (c % 256) as u8,
+    ];
+    parts::is_stored(payload, n, &check)
+}
+
+// Byte i as a number, and 0 where it is not there.
+fn number_at(s: &[u8], i: usize) -> usize
+    ensures { λ r. ⌜ (r ≡ getD (now (s .entry)) i 0) × (r < 256) ⌝ }
+{
+    offsets::byte_at(s, i) as usize
+}
+
+// The length of the serial.
+fn serial_length(payload: &[u8]) -> usize
+    ensures { λ r. ⌜ (r ≡ serialLength (now (payload .entry))) × (r < 256) ⌝ }
+{
+    number_at(payload, 0)
+}
+
+// The length of the block.
+fn block_length(payload: &[u8]) -> usize
+    ensures { λ r. ⌜ (r ≡ blockLength (now (payload .entry))) × (r < 65536) ⌝ }
+{
+    let at = 1 + serial_length(payload);
+    let high = number_at(payload, at);
+    let low = number_at(payload, at + 1);
+    high * 256 + low
+}
+
+// Whether a payload is exactly as long as its parts.
+fn is_measured(payload: &[u8]) -> bool
+    ensures { λ r. ⌜ r ≡ measured (now (payload .entry)) ⌝ }
+{
+    let s = serial_length(payload);
+    let b = block_length(payload);
+    payload.len() == 1 + s + 2 + b + 4
+}
+
+// Whether the block is that of a dual-band amplifier.
+fn is_amplifier(payload: &[u8]) -> bool
+    ensures { λ r. ⌜ r ≡ amplifier (now (payload .entry)) ⌝ }
+{
+    if block_length(payload) != 9 {
+        return false;
+    }
+    let at = 1 + serial_length(payload) + 2;
+    number_at(payload, at) == 0x00
+}
+
+// The parts and the offsets.
+fn block_of(payload: &[u8]) -> Block
+    ensures { λ r. ⌜ r ≡ blockOf (now (payload .entry)) ⌝ }
+{
+    let s = serial_length(payload);
+    let b = block_length(payload);
+    let at = 1 + s + 2;
+    let offsets = offsets::offsets_in(bytes_from(payload, at + 1));
+    let serial = Part {
+        place: Place(1),
+        len: s,
+    };
+    let block = Part {
+        place: Place(at),
+        len: b,
+    };
+    Block {
+        serial: serial,
+        block: block,
+        offsets: offsets,
+    }
+}
+
+// What a payload comes to: 18, 19, 20, or what it says.
+fn payload_says(payload: &[u8]) -> Said
+    ensures { λ r. ⌜ r ≡ payloadSays (now (payload .entry)) ⌝ }
+{
+    if !is_measured(payload) {
+        return Said::Wrong(18);
+    }
+    if !is_checked(payload) {
+        return Said::Wrong(19);
+    }
+    if !is_amplifier(payload) {
+        return Said::Wrong(20);
+    }
+    Said::Says(block_of(payload))
+}
+
+// What a payload comes to; where nothing is wrong with it and it fits, it goes to the front of the buffer.
+fn take_payload(buffer: &mut [u8], payload: &[u8]) -> Vended
+    ensures { λ r. ⌜ r ≡ taking (payloadSays (now (payload .entry))) (now (payload .entry)) (now (buffer .entry)) .answer ⌝ }
+    ensures { λ r. ⌜ now (buffer .exit) ≡ taking (payloadSays (now (payload .entry))) (now (payload .entry)) (now (buffer .entry)) .memory ⌝ }
+{
+    let s = payload_says(payload);
+    match s {
+        Said::Wrong(k) => Vended::Unread(at_zero(k)),
+        Said::Says(block) => {
+            let n = payload.len();
+            if buffer.len() < n {
+                return Vended::Unread(at_zero(12));
+            }
+            output::copy_at(buffer, 0, payload);
+            Vended::Tells(n, block)
+        }
+    }
+}
+
+// The payload of entries that have the room from start to end. It is joined in memory of this call, so that all is judged before the buffer is written.
+fn take_room(buffer: &mut [u8], image: &[u8], start: usize, end: usize) -> Vended
+    requires { ⌜ IsDone (walked Format.Onie (now image) start end) × (start ≤ end) × (end ≤ start + 2048) ⌝ }
+    ensures { λ r. ⌜ r ≡ takeMatching (matching (map content (rawsIn (walked Format.Onie (now (image .entry)) start end)))) (now (buffer .entry)) .answer ⌝ }
+    ensures { λ r. ⌜ now (buffer .exit) ≡ takeMatching (matching (map content (rawsIn (walked Format.Onie (now (image .entry)) start end)))) (now (buffer .entry)) .memory ⌝ }
+{
+    let mut own = [0u8; 2048];
+    let j = join(&mut own, image, start, end);
+    if !j.found {
+        return Vended::Unread(at_zero(17));
+    }
+    take_payload(buffer, frames::part_of(&own, 0, j.len))
+}
+
+// What both calls ask first, with so many bytes lent to be written: 16, 1, 2.
+fn ask(format: u32, edition: u32, lent: usize) -> Chosen
+    ensures { λ r. ⌜ r ≡ asked format edition lent ⌝ }
+{
+    if format != 4 {
+        return Chosen::Unknown(16);
+    }
+    let c = frames::choose(format, edition);
+    match c {
+        Chosen::Unknown(k) => Chosen::Unknown(k),
+        Chosen::Known(f) => {
+            if 65536 < lent {
+                return Chosen::Unknown(2);
+            }
+            Chosen::Known(f)
+        }
+    }
+}
+
+// The payload of an image, into the buffer, with what it says; a refusal leaves the buffer as it was.
+pub fn read_vendor(buffer: &mut [u8], format: u32, edition: u32, image: &[u8]) -> Vended
+    ensures { λ r. ⌜ (r ≡ readVendor format edition (now (image .entry)) (now (buffer .entry)) .answer) × (now (buffer .exit) ≡ readVendor format edition (now (image .entry)) (now (buffer .entry)) .memory) ⌝ }
+{
+    let a = ask(format, edition, buffer.len());
+    match a {
+        Chosen::Unknown(k) => Vended::Unread(at_zero(k)),
+        Chosen::Known(_) => {
+            let t = accept::take_image(format, edition, image);
+            match t {
+                Taken::Isnt(r) => Vended::Unread(r),
+                Taken::Is(room) => take_room(buffer, image, room.start, room.end),
+            }
+        }
+    }
 }

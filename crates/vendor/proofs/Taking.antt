@@ -1,0 +1,111 @@
+-- A read by what taking the image and joining its pieces give.
+-- Assumes nothing.
+use Prim.Native.Nat.{ℕ, _+_, _≤_, _<_}
+use mathlib.Core.Path.{_≡_, refl, ap, sym, _∙_}
+use mathlib.Core.List.{List, [], _∷_, _++_, map}
+use mathlib.Core.Bool.{Bool, true, false}
+use native.Mathlib.Nat.{zero-add}
+use native.Mathlib.Omega.{arith}
+use lib.ListN.{length, drop}
+use lib.Dec.{eqb}
+use borrow.Author.Tests.{eqb-true}
+use Rattle.layout.specs.declared.Format.{Format}
+use Rattle.layout.specs.declared.Format.the-variants.{Onie}
+use Rattle.layout.specs.declared.Chosen.{Chosen}
+use Rattle.layout.specs.declared.Chosen.the-variants.{Known, Unknown}
+use Rattle.layout.specs.declared.Opened.the-variants.{Room as Opens}
+use Rattle.layout.specs.declared.Refusal.{Refusal}
+use Rattle.layout.specs.Bytes.{if, part, refusal}
+use Rattle.layout.specs.Onie.{onie}
+use Rattle.layout.specs.Editions.{shape, chosen}
+use Rattle.layout.specs.Walk.{Content, content, done}
+use Rattle.layout.specs.Read.{Read, readImage}
+use Rattle.laws.specs.Passes.{walked, IsDone, rawsIn}
+use Rattle.laws.proofs.Calls.{with-known}
+use Rattle.laws.proofs.Choices.{false-true}
+use Rattle.laws.proofs.Onie.{onie-room}
+use Rattle.output.specs.Placing.{over, copied}
+use Rattle.output.proofs.Overlay.{copied-over, part-over}
+use Rattle.accept.specs.declared.Room.{Room}
+use Rattle.accept.specs.declared.Taken.the-variants.{Is, Isnt}
+use Rattle.accept.specs.Taken.{taken}
+use Rattle.accept.proofs.Rooms.{Took, took, not-took}
+use Rattle.blocks.specs.declared.Vended.{Vended}
+use Rattle.blocks.specs.Payload.{matching, joined, payloadSays}
+use Rattle.blocks.specs.Vendor.{askChosen, asked, Taking, untaken, taking, takeMatching, takeRead, takeAsked, readVendor}
+use Rattle.vendor.specs.declared.Joined.{Joined}
+use Rattle.vendor.specs.Pieces.{isThere, joinedBy}
+
+-- an answer and a memory are those of an outcome
+pub outcome : {a : Vended} {m : List ℕ} {t : Taking} → t ≡ record { answer = a; memory = m } → (a ≡ t .answer) × (m ≡ t .memory)
+outcome e = (sym (ap (λ (t : Taking). t .answer) e), sym (ap (λ (t : Taking). t .memory) e))
+
+-- ---- the payload
+
+-- what is copied to the front, with what follows it
+pub copied-front : (d s : List ℕ) → length s ≤ length d → copied d 0 s ≡ s ++ drop (length s) d
+unfolding over
+copied-front d s le = copied-over d 0 s (omega arith) ∙ ap (λ (n : ℕ). s ++ drop n d) (zero-add (length s))
+
+-- what was joined in memory of the call is read there
+pub joined-there : (d s : List ℕ) (n : ℕ) → n ≡ length s → n ≤ length d → part 0 n (copied d 0 s) ≡ s
+joined-there d s n e le = rw (e, copied-over d 0 s (omega arith)) (part-over d 0 s (omega arith))
+
+pub none-match : (cs : List Content) (buffer : List ℕ) → isThere cs ≡ false → takeMatching cs buffer ≡ untaken (refusal 17 0) buffer
+none-match [] buffer q = refl
+none-match (c ∷ cs) buffer q = false-true (sym q)
+
+pub some-match : (cs : List Content) (buffer : List ℕ) → isThere cs ≡ true → takeMatching cs buffer ≡ taking (payloadSays (joined cs)) (joined cs) buffer
+some-match [] buffer q = false-true q
+some-match (c ∷ cs) buffer q = refl
+
+-- ---- the image
+
+-- format number 4 is ONIE
+four-onie : (f e : ℕ) (g : Format) → f ≡ 4 → chosen f e ≡ Known g → g ≡ Onie
+unfolding chosen
+four-onie f e g q k = sym (with-known e Onie g (ap (λ (x : ℕ). chosen x e) (sym q) ∙ k) .0)
+
+-- what both calls ask is refused but where the format is 4
+asked-four : (f e lent : ℕ) (g : Format) → asked f e lent ≡ Known g → f ≡ 4
+unfolding asked
+asked-four f e lent g q = go (eqb f 4) refl q
+  where
+    go : (b : Bool) → eqb f 4 ≡ b → if b (λ _. askChosen (chosen f e) lent) (λ _. Unknown 16) ≡ Known g → f ≡ 4
+    go true z q = eqb-true f 4 z
+    go false z q = let z : _≡_ {A = ℕ} 0 1 = cc in absurd (omega arith)
+
+module _ (f e : ℕ) (image buffer : List ℕ) where
+  pub read-unasked : (n : ℕ) → asked f e (length buffer) ≡ Unknown n → readVendor f e image buffer ≡ untaken (refusal n 0) buffer
+  unfolding readVendor
+  read-unasked n q = ap (λ (x : Chosen). takeAsked x f e image buffer) q
+
+  module _ (g : Format) (q : asked f e (length buffer) ≡ Known g) where
+    read-asked : readVendor f e image buffer ≡ takeRead (readImage f e image) buffer
+    unfolding readVendor
+    read-asked = ap (λ (x : Chosen). takeAsked x f e image buffer) q
+
+    pub read-refused : (r : Refusal) → taken f e image ≡ Isnt r → readVendor f e image buffer ≡ untaken r buffer
+    read-refused r t = read-asked ∙ ap (λ (x : Read). takeRead x buffer) (not-took f e image r t)
+
+    -- an image that is taken: its walk, its room, and what the read comes to
+    pub record Reached (room : Room) : Type 0 where
+      pub done : IsDone (walked Onie image (room .start) (room .end))
+      pub bound : room .start ≤ room .end
+      pub most : room .end ≤ room .start + 2048
+      pub is : readVendor f e image buffer ≡ takeMatching (matching (map content (rawsIn (walked Onie image (room .start) (room .end))))) buffer
+
+    pub read-reached : (room : Room) → taken f e image ≡ Is room → Reached room
+    unfolding onie
+    read-reached room t =
+        let w = took f e image room t in
+        let format : room .format ≡ Onie = four-onie f e (room .format) (asked-four f e (length buffer) g q) (w .known) in
+        let walks : walked Onie image (room .start) (room .end) ≡ done (w .entries) (room .over) = sym (ap (λ (h : Format). walked h image (room .start) (room .end)) format) ∙ w .walks in
+        let opens : shape Onie .opened image ≡ Opens (room .start) (room .end) = sym (ap (λ (h : Format). shape h .opened image) format) ∙ w .opens in
+        let r = rw opens at (onie-room image) in
+        record {
+          done = rw walks tt;
+          bound = w .bound;
+          most = omega (arith, r .starts, r .ends, r .most);
+          is = read-asked ∙ ap (λ (x : Read). takeRead x buffer) (w .read) ∙ rw walks;
+        }
