@@ -1,2 +1,4 @@
+pub mod Cutting
 pub mod Joining
+pub mod Making
 pub mod Taking

@@ -1,7 +1,7 @@
 // Vendor blocks: a payload that is split over FDh entries of an ONIE image is joined, judged and given, or made and cut into values.
 ghost use mathlib.Core.Path.{_≡_};
 ghost use mathlib.Core.Bool.{true};
-ghost use mathlib.Core.List.{List, [], map};
+ghost use mathlib.Core.List.{List, [], _++_, map};
 ghost use Prim.Native.Nat.{ℕ, _+_, _≤_, _<_};
 ghost use lib.ListN.{length, getD, drop, take};
 ghost use Rattle.layout.specs.Bytes.{if, part, sameBytes, refusal};
@@ -9,8 +9,8 @@ ghost use Rattle.layout.specs.Walk.{content};
 ghost use Rattle.layout.specs.Read.{limit};
 ghost use Rattle.laws.specs.Passes.{walked, IsDone, rawsIn};
 ghost use Rattle.output.specs.Placing.{copied};
-ghost use Rattle.blocks.specs.Payload.{matches, matching, joined, serialLength, blockLength, measured, checked, amplifier, blockOf, payloadSays, payloadOf, cutInto, sum};
-ghost use Rattle.blocks.specs.Vendor.{asked, taking, takeMatching, readVendor, piecesIn, writeVendor};
+ghost use Rattle.blocks.specs.Payload.{prefix, matches, matching, joined, serialLength, blockLength, measured, checked, amplifier, blockOf, payloadSays, front, payloadOf, cutInto, sum};
+ghost use Rattle.blocks.specs.Vendor.{asked, taking, takeMatching, readVendor, piecesIn, putValues, writeVendor};
 ghost use Rattle.vendor.specs.Pieces.{joinedBy, countedBy};
 use accept::Taken;
 use blocks::Block;
@@ -285,6 +285,140 @@ pub fn read_vendor(buffer: &mut [u8], format: u32, edition: u32, image: &[u8]) -
             match t {
                 Taken::Isnt(r) => Vended::Unread(r),
                 Taken::Is(room) => take_room(buffer, image, room.start, room.end),
+            }
+        }
+    }
+}
+
+// ---- write
+
+// How many pieces there are, where none is above 250 and they sum to `need`.
+fn count_pieces(pieces: &[u8], need: usize) -> Pieces
+    ensures { λ r. ⌜ r ≡ countedBy (piecesIn (now (pieces .entry))) need ⌝ }
+{
+    let mut at: usize = 0;
+    let mut left = need;
+    let mut n: usize = 0;
+    while 4 <= pieces.len() - at {
+        let size = fields::word_in(pieces, at) as usize;
+        if 250 < size {
+            return Pieces::Wrong;
+        }
+        if left < size {
+            return Pieces::Wrong;
+        }
+        left -= size;
+        at += 4;
+        n += 1;
+    }
+    if left != 0 {
+        return Pieces::Wrong;
+    }
+    Pieces::Right(n)
+}
+
+// All of a payload before its check, from the front of `own` on.
+fn put_front(own: &mut [u8], serial: &[u8], offsets: Offsets)
+    requires { ⌜ (length (now serial) ≤ 255) × (12 + length (now serial) ≤ length (now own)) ⌝ }
+    ensures { λ r. ⌜ now (own .exit) ≡ copied (now (own .entry)) 0 (front (now (serial .entry)) offsets) ⌝ }
+{
+    let n = serial.len();
+    let first = [n as u8];
+    output::copy_at(own, 0, &first);
+    output::copy_at(own, 1, serial);
+    let head = [0x00, 0x09, 0x00];
+    output::copy_at(own, 1 + n, &head);
+    let eight = offsets::offset_bytes(offsets);
+    output::copy_at(own, 1 + n + 3, &eight);
+}
+
+// A payload, from the front of `own` on.
+fn put_payload(own: &mut [u8], serial: &[u8], offsets: Offsets)
+    requires { ⌜ (length (now serial) ≤ 255) × (16 + length (now serial) ≤ length (now own)) ⌝ }
+    ensures { λ r. ⌜ now (own .exit) ≡ copied (now (own .entry)) 0 (payloadOf (now (serial .entry)) offsets) ⌝ }
+{
+    put_front(own, serial, offsets);
+    let n = 12 + serial.len();
+    let c = crc::check32(&own[..n]);
+    let check = [
+        (c / 16777216) as u8,
+        (c / 65536 % 256) as u8,
+        (c / 256 % 256) as u8,
+        (c % 256) as u8,
+    ];
+    output::copy_at(own, n, &check);
+}
+
+// The prefix and a piece, from `to` on.
+fn put_piece(out: &mut [u8], to: usize, piece: &[u8])
+    requires { ⌜ (to + (5 + length (now piece)) ≤ length (now out)) × (length (now out) ≤ limit) ⌝ }
+    ensures { λ r. ⌜ now (out .exit) ≡ copied (now (out .entry)) to (prefix ++ now (piece .entry)) ⌝ }
+{
+    let five = PREFIX;
+    output::copy_at(out, to, &five);
+    output::copy_at(out, to + 5, piece);
+}
+
+// The payload cut into pieces, the prefix before each, from the front of the output on.
+fn put_pieces(out: &mut [u8], pieces: &[u8], payload: &[u8])
+    requires { ⌜ (length (now out) ≤ limit) × (sum (piecesIn (now pieces)) ≡ length (now payload)) × (length (cutInto (piecesIn (now pieces)) (now payload)) ≤ length (now out)) ⌝ }
+    ensures { λ r. ⌜ now (out .exit) ≡ copied (now (out .entry)) 0 (cutInto (piecesIn (now (pieces .entry))) (now (payload .entry))) ⌝ }
+{
+    let mut at: usize = 0;
+    let mut to: usize = 0;
+    let mut from: usize = 0;
+    while 4 <= pieces.len() - at {
+        let size = fields::word_in(pieces, at) as usize;
+        let piece = frames::part_of(payload, from, size);
+        put_piece(out, to, piece);
+        to += 5 + piece.len();
+        from += size;
+        at += 4;
+    }
+}
+
+// The values of a payload in so many pieces, where they fit.
+fn put_values(out: &mut [u8], serial: &[u8], offsets: Offsets, pieces: &[u8], n: usize) -> Made
+    requires { ⌜ (length (now out) ≤ limit) × (length (now serial) ≤ 255) × (n ≡ length (piecesIn (now pieces))) × (sum (piecesIn (now pieces)) ≡ 16 + length (now serial)) ⌝ }
+    ensures { λ r. ⌜ r ≡ putValues (cutInto (piecesIn (now (pieces .entry))) (payloadOf (now (serial .entry)) offsets)) (now (out .entry)) .answer ⌝ }
+    ensures { λ r. ⌜ now (out .exit) ≡ putValues (cutInto (piecesIn (now (pieces .entry))) (payloadOf (now (serial .entry)) offsets)) (now (out .entry)) .memory ⌝ }
+{
+    let len = 16 + serial.len();
+    if 65536 < n {
+        return Made::Unwritten(at_zero(12));
+    }
+    let total = 5 * n + len;
+    if out.len() < total {
+        return Made::Unwritten(at_zero(12));
+    }
+    let mut own = [0u8; 271];
+    put_payload(&mut own, serial, offsets);
+    put_pieces(out, pieces, frames::part_of(&own, 0, len));
+    Made::Wrote(total)
+}
+
+// The values of a payload of this serial and these offsets, into the output; a refusal leaves the output as it was.
+pub fn write_vendor(
+    out: &mut [u8],
+    format: u32,
+    edition: u32,
+    serial: &[u8],
+    offsets: Offsets,
+    pieces: &[u8],
+) -> Made
+    ensures { λ r. ⌜ (r ≡ writeVendor format edition (now (serial .entry)) offsets (piecesIn (now (pieces .entry))) (now (out .entry)) .answer) × (now (out .exit) ≡ writeVendor format edition (now (serial .entry)) offsets (piecesIn (now (pieces .entry))) (now (out .entry)) .memory) ⌝ }
+{
+    let a = ask(format, edition, out.len());
+    match a {
+        Chosen::Unknown(k) => Made::Unwritten(at_zero(k)),
+        Chosen::Known(_) => {
+            if 255 < serial.len() {
+                return Made::Unwritten(at_zero(18));
+            }
+            let c = count_pieces(pieces, 16 + serial.len());
+            match c {
+                Pieces::Wrong => Made::Unwritten(at_zero(18)),
+                Pieces::Right(n) => put_values(out, serial, offsets, pieces, n),
             }
         }
     }
