@@ -29,7 +29,7 @@ cast-size : tie.Need-cast-size Inv-loop μ-loop
 cast-size c = search needs
 
 returns : tie.Need-returns Inv-loop μ-loop
-returns c = 
+returns c =
     let a = c .before .before .before .before .before .args in
     let s = now (a .pieces) in
     let l = c .before .before .before .loop in
@@ -38,7 +38,7 @@ returns c =
     counting-large (l .inv) le (omega (arith, size, c .if1 .taken))
 
 returns-2 : tie.Need-returns-2 Inv-loop μ-loop
-returns-2 c = 
+returns-2 c =
     let a = c .before .before .before .before .before .before .args in
     let s = now (a .pieces) in
     let l = c .before .before .before .before .loop in
@@ -47,7 +47,7 @@ returns-2 c =
     counting-beyond (l .inv) le (omega (arith, size, c .if2 .taken))
 
 add-at : tie.Need-add-at Inv-loop μ-loop
-add-at c = 
+add-at c =
     let a = c .before .before .before .before .before .before .args in
     let s = now (a .pieces) in
     let l = c .before .before .before .before .loop in
@@ -56,7 +56,7 @@ add-at c =
     omega (arith, le)
 
 add-n : tie.Need-add-n Inv-loop μ-loop
-add-n c = 
+add-n c =
     let a = c .before .before .before .before .before .before .args in
     let s = now (a .pieces) in
     let l = c .before .before .before .before .loop in
@@ -65,7 +65,7 @@ add-n c =
     omega (arith, counting-few (l .inv), le)
 
 loop-less : tie.Need-loop-less Inv-loop μ-loop
-loop-less c = 
+loop-less c =
     let a = c .before .before .before .before .before .before .args in
     let s = now (a .pieces) in
     let l = c .before .before .before .before .loop in
@@ -74,7 +74,7 @@ loop-less c =
     omega (arith, le)
 
 loop-again : tie.Need-loop-again Inv-loop μ-loop
-loop-again c = 
+loop-again c =
     let a = c .before .before .before .before .before .before .args in
     let s = now (a .pieces) in
     let l = c .before .before .before .before .loop in

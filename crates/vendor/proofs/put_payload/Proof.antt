@@ -55,7 +55,7 @@ same-length c = search needs
 
 returns : tie.Need-returns
 unfolding payloadOf
-returns c = 
+returns c =
     let b = c .before .before .before .before .before .before .before .before .before .before .before .before .before in
     let d = now (b .args .own) in
     let s = now (b .args .serial) in

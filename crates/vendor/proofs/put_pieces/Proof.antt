@@ -35,7 +35,7 @@ part-of-requires c κs = search needs
 
 put-piece-requires : tie.Need-put-piece-requires Inv-loop μ-loop
 unfolding part
-put-piece-requires c κs = 
+put-piece-requires c κs =
     let b = c .before .before .before .before .before .before .before .before in
     let s = now (b .args .pieces) in
     let l = c .before .before .before .before .loop in
@@ -47,7 +47,7 @@ put-piece-requires c κs =
 
 add-to : tie.Need-add-to Inv-loop μ-loop
 unfolding part
-add-to c = 
+add-to c =
     let b = c .before .before .before .before .before .before .before .before .before .before .before in
     let s = now (b .args .pieces) in
     let l = c .before .before .before .before .before .before .before .loop in
@@ -59,7 +59,7 @@ add-to c =
 
 add-to-2 : tie.Need-add-to-2 Inv-loop μ-loop
 unfolding part
-add-to-2 c = 
+add-to-2 c =
     let b = c .before .before .before .before .before .before .before .before .before .before .before in
     let s = now (b .args .pieces) in
     let l = c .before .before .before .before .before .before .before .loop in
@@ -71,7 +71,7 @@ add-to-2 c =
 
 add-from : tie.Need-add-from Inv-loop μ-loop
 unfolding part
-add-from c = 
+add-from c =
     let b = c .before .before .before .before .before .before .before .before .before .before .before in
     let s = now (b .args .pieces) in
     let l = c .before .before .before .before .before .before .before .loop in
@@ -82,7 +82,7 @@ add-from c =
     omega (arith, putting-sum (l .inv) fits le piece (b .pre .1), size)
 
 add-at : tie.Need-add-at Inv-loop μ-loop
-add-at c = 
+add-at c =
     let b = c .before .before .before .before .before .before .before .before .before .before .before in
     let s = now (b .args .pieces) in
     let l = c .before .before .before .before .before .before .before .loop in
@@ -92,7 +92,7 @@ add-at c =
     omega (arith, le)
 
 loop-less : tie.Need-loop-less Inv-loop μ-loop
-loop-less c = 
+loop-less c =
     let b = c .before .before .before .before .before .before .before .before .before .before .before in
     let s = now (b .args .pieces) in
     let l = c .before .before .before .before .before .before .before .loop in
@@ -103,7 +103,7 @@ loop-less c =
 
 loop-again : tie.Need-loop-again Inv-loop μ-loop
 unfolding part
-loop-again c = 
+loop-again c =
     let b = c .before .before .before .before .before .before .before .before .before .before .before in
     let s = now (b .args .pieces) in
     let l = c .before .before .before .before .before .before .before .loop in
