@@ -16,3 +16,5 @@ pub mod Writing
 pub mod OlderReads
 pub mod OlderEdits
 pub mod EditRule
+pub mod Payload
+pub mod Vendor
