@@ -31,15 +31,19 @@ offsetsIn s =
       «l_east_out» = signed (getD s 7 0);
     }
 
+-- a number for each of eight offsets, in the same order
+abbrev pub eachOffset : (ℤ → ℕ) → Offsets → List ℕ
+eachOffset g o =
+    g (o .«c_west_in»)
+    ∷ g (o .«c_west_out»)
+    ∷ g (o .«c_east_in»)
+    ∷ g (o .«c_east_out»)
+    ∷ g (o .«l_west_in»)
+    ∷ g (o .«l_west_out»)
+    ∷ g (o .«l_east_in»)
+    ∷ g (o .«l_east_out»)
+    ∷ []
+
 -- the eight bytes that say eight offsets
 abbrev pub offsetBytes : Offsets → List ℕ
-offsetBytes o =
-    signedByte (o .«c_west_in»)
-    ∷ signedByte (o .«c_west_out»)
-    ∷ signedByte (o .«c_east_in»)
-    ∷ signedByte (o .«c_east_out»)
-    ∷ signedByte (o .«l_west_in»)
-    ∷ signedByte (o .«l_west_out»)
-    ∷ signedByte (o .«l_east_in»)
-    ∷ signedByte (o .«l_east_out»)
-    ∷ []
+offsetBytes o = eachOffset signedByte o

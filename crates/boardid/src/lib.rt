@@ -1,16 +1,21 @@
 // The calls from C. Each takes the edition of the caller's header; docs/C-INTERFACE.md has the layouts and the packed answer.
 ghost use mathlib.Core.Path.{_≡_};
-ghost use Prim.Native.Nat.{_+_, _*_, _/_, _≤_, _<_};
+ghost use Prim.Native.Nat.{ℕ, _+_, _*_, _/_, _≤_, _<_};
+ghost use mathlib.Core.List.{List};
 ghost use lib.ListN.{length};
 ghost use Rattle.layout.specs.Editions.{shape};
 ghost use Rattle.layout.specs.Bytes.{refusal};
 ghost use Rattle.layout.specs.Calls.{entriesOf, toldRefusal};
 ghost use Rattle.laws.specs.Passes.{walked, IsDone, rawsIn};
 ghost use Rattle.output.specs.Placing.{copied};
+ghost use Rattle.blocks.specs.Vendor.{readVendor};
 ghost use Rattle.records.specs.Packed.{packed};
 ghost use Rattle.records.specs.Words.{recordsBytes};
-ghost use Rattle.records.specs.Exports.{checkCall, valueCall, stringCall, entryCall, walkFormat, walkEdition, walkEntry, stepCall, listCall, writeCall, editCall};
+ghost use Rattle.records.specs.Exports.{checkCall, valueCall, stringCall, entryCall, walkFormat, walkEdition, walkEntry, stepCall, listCall, writeCall, editCall, unlent, vendorReadCall, offsetsOf, vendorWriteCall};
 use accept::Taken;
+use blocks::Offsets;
+use blocks::Vended;
+use layout::Chosen;
 use layout::Format;
 use layout::Lookup;
 use layout::Place;
@@ -172,6 +177,7 @@ pub extern "C" fn boardid_list(format: u32, edition: u32, image: &[u8], out: &mu
         }
     }
 }
+
 // ---- write and edit
 
 // The image of a field list, into the output.
@@ -201,4 +207,84 @@ pub extern "C" fn boardid_edit(
     ensures { λ r. ⌜ (r ≡ editCall format edition (now (image .entry)) n (now (value .entry)) (now (out .entry)) .answer) × (now (out .exit) ≡ editCall format edition (now (image .entry)) n (now (value .entry)) (now (out .entry)) .memory) ⌝ }
 {
     records::pack_made(editor::edit_entry(out, format, edition, image, n as usize, value))
+}
+
+// ---- vendor blocks
+
+// The answer of a read where less than a block is lent, with a buffer of so many bytes: 12 at 0, after every other refusal.
+fn read_unlent(format: u32, edition: u32, image: &[u8], lent: usize) -> u64
+    ensures { λ r. ⌜ ((buffer : List ℕ) → length buffer ≡ lent → r ≡ packed (toldRefusal (unlent (readVendor format edition (now (image .entry)) buffer .answer)))) ⌝ }
+{
+    let a = vendor::ask(format, edition, lent);
+    match a {
+        Chosen::Unknown(k) => records::pack_refusal(Refusal {
+            number: k,
+            place: Place(0),
+        }),
+        Chosen::Known(_) => {
+            let mut none = [0u8; 0];
+            let v = vendor::read_vendor(&mut none, format, edition, image);
+            match v {
+                Vended::Unread(r) => records::pack_refusal(r),
+                Vended::Tells(_, _) => no_room(),
+            }
+        }
+    }
+}
+
+// The payload of an image, into the buffer, and what it says, into the block.
+#[no_mangle]
+pub extern "C" fn boardid_vendor_read(
+    format: u32,
+    edition: u32,
+    image: &[u8],
+    payload: &mut [u8],
+    block: &mut [u8],
+) -> u64
+    ensures { λ r. ⌜ (r ≡ vendorReadCall format edition (now (image .entry)) (now (payload .entry)) (now (block .entry)) .answer) × (now (payload .exit) ≡ vendorReadCall format edition (now (image .entry)) (now (payload .entry)) (now (block .entry)) .payload) × (now (block .exit) ≡ vendorReadCall format edition (now (image .entry)) (now (payload .entry)) (now (block .entry)) .block) ⌝ }
+{
+    if block.len() < 48 {
+        return read_unlent(format, edition, image, payload.len());
+    }
+    let v = vendor::read_vendor(payload, format, edition, image);
+    match v {
+        Vended::Unread(r) => records::pack_refusal(r),
+        Vended::Tells(n, b) => {
+            records::put_block(block, b);
+            records::pack_count(n)
+        }
+    }
+}
+
+// The offsets in a number of 64 bits.
+fn offsets_of(n: u64) -> Offsets
+    ensures { λ r. ⌜ r ≡ offsetsOf n ⌝ }
+{
+    let eight = [
+        (n % 256) as u8,
+        (n / 256 % 256) as u8,
+        (n / 65536 % 256) as u8,
+        (n / 16777216 % 256) as u8,
+        (n / 4294967296 % 256) as u8,
+        (n / 1099511627776 % 256) as u8,
+        (n / 281474976710656 % 256) as u8,
+        (n / 72057594037927936 % 256) as u8,
+    ];
+    offsets::offsets_in(&eight)
+}
+
+// The values of a payload in pieces, into the output.
+#[no_mangle]
+pub extern "C" fn boardid_vendor_write(
+    format: u32,
+    edition: u32,
+    serial: &[u8],
+    offsets: u64,
+    pieces: &[u8],
+    out: &mut [u8],
+) -> u64
+    ensures { λ r. ⌜ (r ≡ vendorWriteCall format edition (now (serial .entry)) offsets (now (pieces .entry)) (now (out .entry)) .answer) × (now (out .exit) ≡ vendorWriteCall format edition (now (serial .entry)) offsets (now (pieces .entry)) (now (out .entry)) .memory) ⌝ }
+{
+    let o = offsets_of(offsets);
+    records::pack_made(vendor::write_vendor(out, format, edition, serial, o, pieces))
 }

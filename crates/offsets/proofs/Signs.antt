@@ -16,7 +16,7 @@ use mir.Val.{Fits, SFits, toZ, ofZ}
 use mir.Facts.{toZ-ofZ, toZ-pos}
 use Rattle.laws.proofs.Choices.{false-true}
 use Rattle.blocks.specs.declared.Offsets.{Offsets}
-use Rattle.blocks.specs.Offset.{signed, signedByte, offsetsIn, offsetBytes}
+use Rattle.blocks.specs.Offset.{signed, signedByte, offsetsIn, eachOffset}
 
 -- ---- -1 less a number
 
@@ -89,7 +89,6 @@ pub eight-in : (s : List ℕ) {a b c d e f g h : ℤ} → a ≡ signed (getD s 0
     record { «c_west_in» = a; «c_west_out» = b; «c_east_in» = c; «c_east_out» = d; «l_west_in» = e; «l_west_out» = f; «l_east_in» = g; «l_east_out» = h } ≡ offsetsIn s
 eight-in s p0 p1 p2 p3 p4 p5 p6 p7 = rw (p0, p1, p2, p3, p4, p5, p6, p7)
 
-pub eight-out : (o : Offsets) {a b c d e f g h : ℕ} → a ≡ signedByte (o .«c_west_in») → b ≡ signedByte (o .«c_west_out») → c ≡ signedByte (o .«c_east_in») → d ≡ signedByte (o .«c_east_out»)
-    → e ≡ signedByte (o .«l_west_in») → f ≡ signedByte (o .«l_west_out») → g ≡ signedByte (o .«l_east_in») → h ≡ signedByte (o .«l_east_out») →
-    a ∷ b ∷ c ∷ d ∷ e ∷ f ∷ g ∷ h ∷ [] ≡ offsetBytes o
-eight-out o p0 p1 p2 p3 p4 p5 p6 p7 = rw (p0, p1, p2, p3, p4, p5, p6, p7)
+pub eight-out : (k : ℤ → ℕ) (o : Offsets) {a b c d e f g h : ℕ} → a ≡ k (o .«c_west_in») → b ≡ k (o .«c_west_out») → c ≡ k (o .«c_east_in») → d ≡ k (o .«c_east_out»)
+    → e ≡ k (o .«l_west_in») → f ≡ k (o .«l_west_out») → g ≡ k (o .«l_east_in») → h ≡ k (o .«l_east_out») → a ∷ b ∷ c ∷ d ∷ e ∷ f ∷ g ∷ h ∷ [] ≡ eachOffset k o
+eight-out k o p0 p1 p2 p3 p4 p5 p6 p7 = rw (p0, p1, p2, p3, p4, p5, p6, p7)

@@ -1,4 +1,4 @@
--- Words over lent bytes, one after another.
+-- Words over lent bytes, one after another, and signed numbers in words.
 -- Assumes nothing.
 use Prim.Native.Nat.{ℕ, _+_, _*_, _≤_, _<_}
 use mathlib.Core.Path.{_≡_, refl, ap, sym, _∙_}
@@ -6,6 +6,9 @@ use mathlib.Core.List.{List, [], _∷_, _++_}
 use native.Mathlib.Nat.{add-zero}
 use native.Mathlib.Numerals.{add-one}
 use native.Mathlib.Omega.{arith}
+use lib.IntN.{ℤ, pos, negsuc}
+use mir.Syntax.{w8}
+use mir.Val.{SFits}
 use lib.ListN.{length, getD, set, take, length-append}
 use lib.Seq.{take-all, take-suc, length-take-le}
 use Rattle.laws.proofs.Lists.{joined-append}
@@ -15,7 +18,10 @@ use Rattle.layout.specs.declared.Reading.{Reading}
 use Rattle.layout.specs.declared.Reading.the-variants.{Plain, Text, Number, Addresses, Numbered, Tests, Identified, Batched}
 use Rattle.layout.specs.declared.Entry.{Entry}
 use Rattle.layout.specs.Calls.{toldReading}
-use Rattle.records.specs.Words.{wordBytes, wordsBytes, readingWords, recordWords, recordBytes, recordsBytes}
+use Rattle.blocks.specs.declared.Offsets.{Offsets}
+use Rattle.blocks.specs.declared.Block.{Block}
+use Rattle.blocks.specs.Offset.{signedByte, eachOffset}
+use Rattle.records.specs.Words.{wordBytes, wordsBytes, readingWords, recordWords, recordBytes, recordsBytes, signedWord, blockWords, blockBytes}
 
 -- four bytes stored one after another
 pub stored-four : (d : List ℕ) (a w x y z : ℕ) → a + 4 ≤ length d → set (set (set (set d a w) (a + 1) x) (a + 2) y) (a + 3) z ≡ copied d a (w ∷ x ∷ y ∷ z ∷ [])
@@ -98,3 +104,24 @@ pub length-records : (xs : List Entry) → length (recordsBytes xs) ≡ length x
 unfolding recordsBytes
 length-records [] = refl
 length-records (x ∷ xs) = let q = length-records xs in omega (arith, q, length-record x, length-append (recordBytes x) (recordsBytes xs))
+
+-- ---- signed numbers
+
+-- a byte below 128 says a number that is not negative, and the word of one from 128 on is as far from 2^32 as the byte is from 256
+pub low-word : (z : ℤ) → SFits w8 z → signedByte z < 128 → signedByte z ≡ signedWord z
+low-word (pos n) f lt = refl
+low-word (negsuc n) f lt = absurd (omega (arith, f .sfits))
+
+pub high-word : (z : ℤ) → SFits w8 z → 128 ≤ signedByte z → signedByte z + 4294967040 ≡ signedWord z
+high-word (pos n) f le = absurd (omega (arith, f .sfits))
+high-word (negsuc n) f le = omega (arith, f .sfits)
+
+-- a block has eight offsets
+pub offsets-eight : (o : Offsets) → let w = eachOffset signedWord o in
+    getD w 0 0 ∷ getD w 1 0 ∷ getD w 2 0 ∷ getD w 3 0 ∷ getD w 4 0 ∷ getD w 5 0 ∷ getD w 6 0 ∷ getD w 7 0 ∷ [] ≡ w
+offsets-eight o = refl
+
+-- a block has 48 bytes
+pub length-block : (b : Block) → length (blockBytes b) ≡ 48
+unfolding blockBytes
+length-block b = length-words (blockWords b)

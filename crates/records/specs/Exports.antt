@@ -1,6 +1,6 @@
--- What the eight calls from C answer, and what the memory then is that they were lent (docs/C-INTERFACE.md).
+-- What the calls from C answer, and what the memory then is that they were lent (docs/C-INTERFACE.md).
 -- Assumes nothing.
-use Prim.Native.Nat.{ℕ, _+_, _*_, _/_}
+use Prim.Native.Nat.{ℕ, _+_, _*_, _/_, _%_}
 use mathlib.Core.List.{List, [], _∷_, _++_}
 use lib.ListN.{length, take, drop}
 use lib.Dec.{leb}
@@ -14,8 +14,13 @@ use Rattle.layout.specs.Read.{Read, accepted, refused, readImage}
 use Rattle.layout.specs.Calls.{Step, told, toldRefusal, toldChecked, toldLocated, toldLookup, checkImage, entriesOf, entryAt, valueAt, stringAt, stepFrom}
 use Rattle.layout.specs.Write.{word, fieldsIn, Outcome, writeImage, toldMade}
 use Rattle.layout.specs.Edit.{editEntry}
+use Rattle.blocks.specs.declared.Offsets.{Offsets}
+use Rattle.blocks.specs.declared.Vended.{Vended}
+use Rattle.blocks.specs.declared.Vended.the-variants.{Tells, Unread}
+use Rattle.blocks.specs.Offset.{offsetsIn}
+use Rattle.blocks.specs.Vendor.{readVendor, toldVended, piecesIn, writeVendor}
 use Rattle.records.specs.Packed.{packed}
-use Rattle.records.specs.Words.{wordsBytes, recordBytes, recordsBytes}
+use Rattle.records.specs.Words.{wordsBytes, recordBytes, recordsBytes, blockBytes}
 
 -- an answer, and what the lent memory then is
 pub record Given : Type 0 where
@@ -114,3 +119,47 @@ writeCall f e fields values out = made (writeImage f e (fieldsIn fields) values 
 
 abbrev pub editCall : ℕ → ℕ → List ℕ → ℕ → List ℕ → List ℕ → Given
 editCall f e img n value out = made (editEntry f e img n value out)
+
+-- ---- vendor blocks
+
+-- an answer, the payload's buffer and the block
+pub record VendorGiven : Type 0 where
+  pub answer : ℕ
+  pub payload : List ℕ
+  pub block : List ℕ
+
+abbrev pub ungiven : Refusal → List ℕ → List ℕ → VendorGiven
+ungiven r buffer m = record { answer = packed (toldRefusal r); payload = buffer; block = m }
+
+-- what refuses a read where less than a block is lent: 12 at 0, after every other refusal
+abbrev pub unlent : Vended → Refusal
+unlent (Tells n b) = refusal 12 0
+unlent (Unread r) = r
+
+-- the block takes the place of the first 48 bytes
+abbrev pub vendorGiven : Vended → List ℕ → List ℕ → List ℕ → VendorGiven
+vendorGiven (Tells n b) memory buffer m = record { answer = packed (toldVended (Tells n b)); payload = memory; block = blockBytes b ++ drop 48 m }
+vendorGiven (Unread r) memory buffer m = ungiven r buffer m
+
+unfoldable pub vendorReadCall : ℕ → ℕ → List ℕ → List ℕ → List ℕ → VendorGiven
+vendorReadCall f e img buffer m =
+    if (leb 48 (length m))
+    (λ _. vendorGiven (readVendor f e img buffer .answer) (readVendor f e img buffer .memory) buffer m)
+    (λ _. ungiven (unlent (readVendor f e img buffer .answer)) buffer m)
+
+-- offset k of a number of 64 bits is the signed byte in its bits 8k to 8k + 7
+abbrev pub offsetsOf : ℕ → Offsets
+offsetsOf n =
+    offsetsIn
+    (n % 256
+    ∷ n / 256 % 256
+    ∷ n / 65536 % 256
+    ∷ n / 16777216 % 256
+    ∷ n / 4294967296 % 256
+    ∷ n / 1099511627776 % 256
+    ∷ n / 281474976710656 % 256
+    ∷ n / 72057594037927936 % 256
+    ∷ [])
+
+abbrev pub vendorWriteCall : ℕ → ℕ → List ℕ → ℕ → List ℕ → List ℕ → Given
+vendorWriteCall f e serial offsets pieces out = made (writeVendor f e serial (offsetsOf offsets) (piecesIn pieces) out)

@@ -1,11 +1,14 @@
--- An entry record in lent bytes: sixteen words of four bytes, low byte first.
+-- An entry record and a vendor block in lent bytes: words of four bytes, low byte first.
 -- Assumes nothing.
-use Prim.Native.Nat.{ℕ, _/_, _%_}
+use Prim.Native.Nat.{ℕ, _-_, _/_, _%_}
 use mathlib.Core.List.{List, [], _∷_, _++_}
+use lib.IntN.{ℤ, pos, negsuc}
 use lib.ListN.{take, replicate}
 use Rattle.layout.specs.declared.Reading.{Reading}
 use Rattle.layout.specs.declared.Entry.{Entry}
 use Rattle.layout.specs.Calls.{toldReading}
+use Rattle.blocks.specs.declared.Block.{Block}
+use Rattle.blocks.specs.Offset.{eachOffset}
 
 -- a number in four bytes
 abbrev pub wordBytes : ℕ → List ℕ
@@ -30,3 +33,15 @@ recordBytes x = wordsBytes (recordWords x)
 unfoldable pub recordsBytes : List Entry → List ℕ
 recordsBytes [] = []
 recordsBytes (x ∷ xs) = recordBytes x ++ recordsBytes xs
+
+-- a signed number in a word: itself, or 2^32 more where it is negative
+abbrev pub signedWord : ℤ → ℕ
+signedWord (pos n) = n
+signedWord (negsuc n) = 4294967295 - n
+
+-- the serial's place in the payload and its length, the block's, the eight offsets
+abbrev pub blockWords : Block → List ℕ
+blockWords b = b .serial .place .0 ∷ b .serial .len ∷ b .block .place .0 ∷ b .block .len ∷ eachOffset signedWord (b .offsets)
+
+unfoldable pub blockBytes : Block → List ℕ
+blockBytes b = wordsBytes (blockWords b)

@@ -1,4 +1,4 @@
-// What goes out to C: the packed answer, and an entry record in lent bytes.
+// What goes out to C: the packed answer, and an entry record and a vendor block in lent bytes.
 ghost use mathlib.Core.Path.{_≡_};
 ghost use Prim.Native.Nat.{ℕ, _+_, _*_, _/_, _≤_};
 ghost use mathlib.Core.List.{[], _∷_};
@@ -7,8 +7,11 @@ ghost use Rattle.layout.specs.Calls.{told, toldRefusal, toldChecked, toldLocate
 ghost use Rattle.layout.specs.Write.{toldMade};
 ghost use Rattle.layout.specs.Bytes.{partAt};
 ghost use Rattle.output.specs.Placing.{copied};
+ghost use Rattle.blocks.specs.Offset.{eachOffset};
 ghost use Rattle.records.specs.Packed.{packed};
-ghost use Rattle.records.specs.Words.{wordBytes, wordsBytes, readingWords, recordWords, recordBytes};
+ghost use Rattle.records.specs.Words.{wordBytes, wordsBytes, readingWords, recordWords, recordBytes, signedWord, blockWords, blockBytes};
+use blocks::Block;
+use blocks::Offsets;
 use layout::Checked;
 use layout::Entry;
 use layout::Identity;
@@ -188,4 +191,73 @@ pub fn put_record(out: &mut [u8], at: usize, x: Entry)
 {
     let words = record_words(x);
     put_words(out, at, &words);
+}
+
+// ---- a vendor block
+
+// A signed number as a word.
+fn signed_word(z: i8) -> u64
+    ensures { λ r. ⌜ r ≡ signedWord z ⌝ }
+{
+    let b = offsets::byte_of(z) as u64;
+    if b < 128 {
+        return b;
+    }
+    b + 4294967040
+}
+
+fn offset_words(o: Offsets) -> [u64; 8]
+    ensures { λ r. ⌜ r ≡ eachOffset signedWord o ⌝ }
+{
+    let a = o.c_west_in;
+    let b = o.c_west_out;
+    let c = o.c_east_in;
+    let d = o.c_east_out;
+    let e = o.l_west_in;
+    let f = o.l_west_out;
+    let g = o.l_east_in;
+    let h = o.l_east_out;
+    [
+        signed_word(a),
+        signed_word(b),
+        signed_word(c),
+        signed_word(d),
+        signed_word(e),
+        signed_word(f),
+        signed_word(g),
+        signed_word(h),
+    ]
+}
+
+fn block_words(x: Block) -> [u64; 12]
+    ensures { λ r. ⌜ r ≡ blockWords x ⌝ }
+{
+    let serial = x.serial;
+    let serial_place = serial.place;
+    let block = x.block;
+    let block_place = block.place;
+    let offsets = x.offsets;
+    let w = offset_words(offsets);
+    [
+        serial_place.0 as u64,
+        serial.len as u64,
+        block_place.0 as u64,
+        block.len as u64,
+        w[0],
+        w[1],
+        w[2],
+        w[3],
+        w[4],
+        w[5],
+        w[6],
+        w[7],
+    ]
+}
+
+// A block over the front of `out`, where it fits.
+pub fn put_block(out: &mut [u8], x: Block)
+    ensures { λ r. ⌜ now (out .exit) ≡ copied (now (out .entry)) 0 (blockBytes x) ⌝ }
+{
+    let words = block_words(x);
+    put_words(out, 0, &words);
 }

@@ -255,7 +255,7 @@ fn take_room(buffer: &mut [u8], image: &[u8], start: usize, end: usize) -> Vende
 }
 
 // What both calls ask first, with so many bytes lent to be written: 16, 1, 2.
-fn ask(format: u32, edition: u32, lent: usize) -> Chosen
+pub fn ask(format: u32, edition: u32, lent: usize) -> Chosen
     ensures { λ r. ⌜ r ≡ asked format edition lent ⌝ }
 {
     if format != 4 {

@@ -36,7 +36,7 @@ byte-of-requires-8 c κs = search needs
 returns : tie.Need-returns
 returns c =
     let o = c .before .before .before .before .before .before .before .before .before .before .before .before .before .before .before .before .args .o in
-    eight-out o
+    eight-out signedByte o
     (c .before .before .before .before .before .before .before .byte-of .ensures ∙ ap signedByte (toZ-ofZ {w = w8} {z = o .«c_west_in»} (search needs)))
     (c .before .before .before .before .before .before .byte-of2 .ensures ∙ ap signedByte (toZ-ofZ {w = w8} {z = o .«c_west_out»} (search needs)))
     (c .before .before .before .before .before .byte-of3 .ensures ∙ ap signedByte (toZ-ofZ {w = w8} {z = o .«c_east_in»} (search needs)))
