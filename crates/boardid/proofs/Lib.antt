@@ -1,2 +1,3 @@
 pub mod Filling
 pub mod Giving
+pub mod Vendor

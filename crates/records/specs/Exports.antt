@@ -129,7 +129,7 @@ pub record VendorGiven : Type 0 where
   pub block : List ℕ
 
 abbrev pub ungiven : Refusal → List ℕ → List ℕ → VendorGiven
-ungiven r buffer m = record { answer = packed (toldRefusal r); payload = buffer; block = m }
+ungiven r payload m = record { answer = packed (toldRefusal r); payload = payload; block = m }
 
 -- what refuses a read where less than a block is lent: 12 at 0, after every other refusal
 abbrev pub unlent : Vended → Refusal
@@ -137,14 +137,14 @@ unlent (Tells n b) = refusal 12 0
 unlent (Unread r) = r
 
 -- the block takes the place of the first 48 bytes
-abbrev pub vendorGiven : Vended → List ℕ → List ℕ → List ℕ → VendorGiven
-vendorGiven (Tells n b) memory buffer m = record { answer = packed (toldVended (Tells n b)); payload = memory; block = blockBytes b ++ drop 48 m }
-vendorGiven (Unread r) memory buffer m = ungiven r buffer m
+abbrev pub vendorGiven : Vended → List ℕ → List ℕ → VendorGiven
+vendorGiven (Tells n b) payload m = record { answer = packed (toldVended (Tells n b)); payload = payload; block = blockBytes b ++ drop 48 m }
+vendorGiven (Unread r) payload m = ungiven r payload m
 
 unfoldable pub vendorReadCall : ℕ → ℕ → List ℕ → List ℕ → List ℕ → VendorGiven
 vendorReadCall f e img buffer m =
     if (leb 48 (length m))
-    (λ _. vendorGiven (readVendor f e img buffer .answer) (readVendor f e img buffer .memory) buffer m)
+    (λ _. vendorGiven (readVendor f e img buffer .answer) (readVendor f e img buffer .memory) m)
     (λ _. ungiven (unlent (readVendor f e img buffer .answer)) buffer m)
 
 -- offset k of a number of 64 bits is the signed byte in its bits 8k to 8k + 7

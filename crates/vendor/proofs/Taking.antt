@@ -81,7 +81,7 @@ module _ (f e : ℕ) (image buffer : List ℕ) where
   read-unasked n q = ap (λ (x : Chosen). takeAsked x f e image buffer) q
 
   module _ (g : Format) (q : asked f e (length buffer) ≡ Known g) where
-    read-asked : readVendor f e image buffer ≡ takeRead (readImage f e image) buffer
+    pub read-asked : readVendor f e image buffer ≡ takeRead (readImage f e image) buffer
     unfolding readVendor
     read-asked = ap (λ (x : Chosen). takeAsked x f e image buffer) q
 
