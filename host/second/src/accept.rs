@@ -21,7 +21,7 @@ pub(crate) struct Accepted<'a> {
 /// Accepts an image, or says what the image's check refuses first.
 pub(crate) fn accept(format: u32, edition: u32, image: &[u8]) -> Result<Accepted<'_>, Refusal> {
     let (format, edition) = known(format, edition)?;
-    not_too_long(image)?;
+    not_too_long(image.len())?;
 
     let frames = frames::walk(format, image)?;
     compare_check(format, image, frames.end)?;

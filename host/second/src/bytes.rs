@@ -1,13 +1,13 @@
-//! The eight calls in the byte form of the C interface.
+//! The ten calls in the byte form of the C interface.
 //!
-//! Records, fields and walks lie in lent bytes as unsigned 32-bit words, low byte first, and a last
-//! one that is cut short counts as none. Every call answers with one 64-bit number. Its bits 59 to
+//! Records, fields, walks, pieces and a vendor block lie in lent bytes as 32-bit words, low byte
+//! first, and a last one that is cut short counts as none. Every call answers with one 64-bit number. Its bits 59 to
 //! 63 are the number of the refusal, or 0. Where the call is refused, bits 0 to 58 are the place.
 //! Else bits 32 to 58 are a count or a length, and bits 0 to 31 are the place of a part, or 0 where
 //! the call gives no part.
 
 use crate::refusal::{Reason, Refusal};
-use crate::{Entry, Field, Identity, Reading, Walk};
+use crate::{Entry, Field, Identity, Payload, Reading, Walk};
 
 /// The length of a record in bytes.
 pub const RECORD: usize = 64;
@@ -15,6 +15,8 @@ pub const RECORD: usize = 64;
 pub const FIELD: usize = 20;
 /// The length of a walk in bytes.
 pub const WALK: usize = 16;
+/// The length of a vendor block in bytes.
+pub const BLOCK: usize = 48;
 
 /// Checks an image: the count of its entries.
 pub fn check(format: u32, edition: u32, image: &[u8]) -> u64 {
@@ -72,6 +74,45 @@ pub fn edit(format: u32, edition: u32, image: &[u8], n: u64, value: &[u8], out: 
     answer(crate::edit(format, edition, image, n, value, out).map(count))
 }
 
+/// Joins the payload of an image's vendor extensions into the buffer lent for it, and gives its parts
+/// and offsets in a block: the payload's length.
+pub fn vendor_read(
+    format: u32,
+    edition: u32,
+    image: &[u8],
+    payload: &mut [u8],
+    block: &mut [u8],
+) -> u64 {
+    let room = payload.len();
+    answer(
+        crate::vendor_read(format, edition, image, room).and_then(|read| {
+            // Both are judged before anything is put into either.
+            let block = block.get_mut(..BLOCK).ok_or(Reason::NoRoom.at(0))?;
+            block.copy_from_slice(&block_bytes(&read));
+            let length = read.bytes.len();
+            payload[..length].copy_from_slice(&read.bytes);
+            Ok(count(length))
+        }),
+    )
+}
+
+/// Writes a payload, cut into pieces, as the values of vendor extensions: how many bytes they have in
+/// all.
+///
+/// Offset k is the signed byte in bits 8k to 8k + 7 of `offsets`.
+pub fn vendor_write(
+    format: u32,
+    edition: u32,
+    serial: &[u8],
+    offsets: u64,
+    pieces: &[u8],
+    out: &mut [u8],
+) -> u64 {
+    let offsets = offsets.to_le_bytes().map(|byte| byte as i8);
+    let pieces: Vec<u32> = words(pieces).collect();
+    answer(crate::vendor_write(format, edition, serial, offsets, &pieces, out).map(count))
+}
+
 /// What a call gives where nothing is refused.
 struct Given {
     place: usize,
@@ -117,13 +158,26 @@ fn record_bytes(entry: &Entry) -> [u8; RECORD] {
         reading,
     ];
     let mut bytes = [0; RECORD];
-    for (lent, word) in bytes
-        .chunks_exact_mut(4)
-        .zip(head.into_iter().chain(carried))
-    {
+    put_words(&mut bytes, head.into_iter().chain(carried));
+    bytes
+}
+
+/// The serial's place and length in the payload, the block's, and the offsets as signed words.
+fn block_bytes(payload: &Payload) -> [u8; BLOCK] {
+    // A payload has at most as many bytes as an image, so all its places and lengths fit.
+    let parts = [&payload.serial, &payload.block].map(|part| [part.start, part.len()]);
+    let parts = parts.into_iter().flatten().map(|number| number as u32);
+    let offsets = payload.offsets.map(|offset| i32::from(offset) as u32);
+    let mut bytes = [0; BLOCK];
+    put_words(&mut bytes, parts.chain(offsets));
+    bytes
+}
+
+/// Puts words into bytes, from their first on.
+fn put_words(bytes: &mut [u8], words: impl Iterator<Item = u32>) {
+    for (lent, word) in bytes.chunks_exact_mut(4).zip(words) {
         lent.copy_from_slice(&word.to_le_bytes());
     }
-    bytes
 }
 
 /// The number of a reading and the words it carries.

@@ -147,9 +147,9 @@ pub(crate) fn known(format: u32, edition: u32) -> Result<(Format, Edition), Refu
     Ok((format, edition))
 }
 
-/// Refuses an image or an output that is too long.
-pub(crate) fn not_too_long(bytes: &[u8]) -> Result<(), Refusal> {
-    if bytes.len() > LONGEST {
+/// Refuses the length of an image or an output that is too long.
+pub(crate) fn not_too_long(length: usize) -> Result<(), Refusal> {
+    if length > LONGEST {
         Err(Reason::TooLong.at(0))
     } else {
         Ok(())

@@ -1,9 +1,10 @@
 //! A second, independent implementation of the board-identity library.
 //!
 //! It reads, writes and edits images of four layouts: FBOSS v5 (format 1), VPD 2.0 (format 2), Tiny
-//! EEPROM version 2 (format 3) and ONIE (format 4). It is written from the scope document (01) and
-//! the change requests (02, items 1 and 3) alone, so that its answers can be compared with those of
-//! the library proper. Clarity comes before speed here.
+//! EEPROM version 2 (format 3) and ONIE (format 4), and reads and writes the vendor blocks of an ONIE
+//! image. It is written from the scope document (01) and the change requests (02, items 1, 3 and 4)
+//! alone, so that its answers can be compared with those of the library proper. Clarity comes before
+//! speed here.
 //!
 //! No call panics, whatever it is given, and a refused call leaves lent memory as it was.
 
@@ -15,6 +16,7 @@ mod formats;
 mod frames;
 mod names;
 mod refusal;
+mod vendor;
 mod write;
 
 pub mod bytes;
@@ -24,6 +26,7 @@ pub mod program;
 mod tests;
 
 pub use refusal::Refusal;
+pub use vendor::{vendor_read, vendor_write, Payload};
 pub use write::{edit, write};
 
 use accept::accept;

@@ -15,7 +15,7 @@ pub struct Refusal {
 pub(crate) enum Reason {
     /// The edition is not 1 to 3.
     Edition = 1,
-    /// The image or the output is longer than 65,536 bytes.
+    /// The image, the output or the buffer for a payload is longer than 65,536 bytes.
     TooLong = 2,
     /// The image is shorter than the header, or a fixed header byte is wrong.
     Header = 3,
@@ -35,8 +35,8 @@ pub(crate) enum Reason {
     Check = 10,
     /// A required field is missing.
     Missing = 11,
-    /// Too few records lent, the output too small, a Tiny length above 255, or an ONIE length above
-    /// 2,048.
+    /// Too few records lent, the output or the buffer for a payload too small, a Tiny length above
+    /// 255, or an ONIE length above 2,048.
     NoRoom = 12,
     /// No entry of that number, or a field's parts not inside the lent values.
     NoEntry = 13,
@@ -44,8 +44,18 @@ pub(crate) enum Reason {
     NotNamed = 14,
     /// No pool, or no such string.
     NoString = 15,
-    /// The format is not 1 to 4, or not one that the edition has, or not 3 for a string.
+    /// The format is not 1 to 4, or not one that the edition has, or not 3 for a string, or not 4
+    /// for a vendor block.
     Format = 16,
+    /// No vendor extension holds a piece of a payload.
+    NoPayload = 17,
+    /// The payload is not exactly as long as its parts, or in writing a serial above 255 bytes, a
+    /// piece above 250, or pieces that do not sum to the payload.
+    PayloadLength = 18,
+    /// The payload's check is wrong.
+    PayloadCheck = 19,
+    /// The block has another version, or not nine bytes.
+    Block = 20,
 }
 
 impl Reason {

@@ -4,6 +4,7 @@ use crate::checks::{check16, check32, check8};
 use crate::*;
 
 mod onie;
+mod vendor;
 
 const FBOSS: u32 = 1;
 const VPD: u32 = 2;

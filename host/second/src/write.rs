@@ -25,7 +25,7 @@ pub fn write(
     out: &mut [u8],
 ) -> Result<usize, Refusal> {
     let (format, edition) = known(format, edition)?;
-    not_too_long(out)?;
+    not_too_long(out.len())?;
 
     let mut present = Present::default();
     let mut pool_seen = false;
@@ -79,7 +79,7 @@ pub fn edit(
     out: &mut [u8],
 ) -> Result<usize, Refusal> {
     known(format, edition)?;
-    not_too_long(out)?;
+    not_too_long(out.len())?;
     let accepted = accept(format, edition, image)?;
     let format = accepted.format;
 
