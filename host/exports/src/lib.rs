@@ -1,4 +1,4 @@
-//! The eight calls of libboardid.a, as C declares them.
+//! The ten calls of libboardid.a, as C declares them.
 //!
 //! A slice goes out as a pointer and a length, and a length of 0 goes with any pointer. Every call
 //! is safe where its pointers are good for their lengths and where what it writes overlaps nothing
@@ -70,6 +70,29 @@ extern "C" {
         n: u64,
         value: *const u8,
         value_length: usize,
+        out: *mut u8,
+        out_length: usize,
+    ) -> u64;
+
+    pub fn boardid_vendor_read(
+        format: u32,
+        edition: u32,
+        image: *const u8,
+        image_length: usize,
+        payload: *mut u8,
+        payload_length: usize,
+        block: *mut u8,
+        block_length: usize,
+    ) -> u64;
+
+    pub fn boardid_vendor_write(
+        format: u32,
+        edition: u32,
+        serial: *const u8,
+        serial_length: usize,
+        offsets: u64,
+        pieces: *const u8,
+        pieces_length: usize,
         out: *mut u8,
         out_length: usize,
     ) -> u64;
