@@ -1,4 +1,4 @@
-//! Images and field lists of every format, generated from a seed: good ones, damaged ones, and the
+//! Images, field lists and vendor writes, generated from a seed: good ones, damaged ones, and the
 //! largest that there are.
 //!
 //! This is written from the scope document and the change requests, and shares no code with the
@@ -13,4 +13,5 @@ pub mod image;
 pub mod onie;
 pub mod random;
 pub mod tiny;
+pub mod vendor;
 pub mod vpd;
