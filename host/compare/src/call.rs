@@ -1,4 +1,4 @@
-//! The eight calls with their arguments, made on the library and on the second reader.
+//! The ten calls with their arguments, made on the library and on the second reader.
 
 use crate::lent::Lent;
 
@@ -12,11 +12,22 @@ pub enum Kind {
     Step,
     Write,
     Edit,
+    VendorRead,
+    VendorWrite,
 }
 
 /// The calls' names, by kind.
-pub const NAMES: [&str; 8] = [
-    "check", "list", "entry", "value", "string", "step", "write", "edit",
+pub const NAMES: [&str; 10] = [
+    "check",
+    "list",
+    "entry",
+    "value",
+    "string",
+    "step",
+    "write",
+    "edit",
+    "vendor_read",
+    "vendor_write",
 ];
 
 /// One call. What its kind does not take stands at nothing.
@@ -26,15 +37,17 @@ pub struct Call<'a> {
     /// A step has its format and edition in the walk.
     pub format: u32,
     pub edition: u32,
-    /// The entry's number, or the string's.
+    /// The entry's number, or the string's, or the offsets of a vendor write.
     pub n: u64,
     /// The parts that are only read: the image, then the new value of an edit. Of a write, the
-    /// fields, then the values.
+    /// fields, then the values. Of a vendor write, the serial, then the pieces.
     pub read: [&'a [u8]; 2],
     /// The walk of a step, which is read and written.
     pub walk: &'a [u8],
-    /// The length in bytes of the records, the record or the output.
+    /// The length in bytes of the records, the record, the output or the payload.
     pub room: usize,
+    /// The length in bytes of the block of a vendor read.
+    pub block: usize,
 }
 
 impl<'a> Call<'a> {
@@ -48,6 +61,7 @@ impl<'a> Call<'a> {
             read: [image, &[]],
             walk: &[],
             room: 0,
+            block: 0,
         }
     }
 
@@ -111,20 +125,48 @@ impl<'a> Call<'a> {
         }
     }
 
+    pub fn vendor_read(self, room: usize, block: usize) -> Call<'a> {
+        let kind = Kind::VendorRead;
+        Call {
+            kind,
+            room,
+            block,
+            ..self
+        }
+    }
+
+    pub fn vendor_write(
+        format: u32,
+        edition: u32,
+        serial: &'a [u8],
+        offsets: u64,
+        pieces: &'a [u8],
+        room: usize,
+    ) -> Call<'a> {
+        Call {
+            kind: Kind::VendorWrite,
+            n: offsets,
+            read: [serial, pieces],
+            room,
+            ..Call::check(format, edition, &[])
+        }
+    }
+
     pub fn name(&self) -> &'static str {
         NAMES[self.kind as usize]
     }
 
     /// The numbers that the call takes, by name.
-    pub fn numbers(&self) -> Vec<(&'static str, u64)> {
+    pub fn numbers(&self) -> Vec<(&'static str, String)> {
         let mut numbers = Vec::new();
         if self.kind != Kind::Step {
-            numbers.push(("format", self.format.into()));
-            numbers.push(("edition", self.edition.into()));
+            numbers.push(("format", self.format.to_string()));
+            numbers.push(("edition", self.edition.to_string()));
         }
         match self.kind {
-            Kind::Entry | Kind::Value | Kind::Edit => numbers.push(("n", self.n)),
-            Kind::String => numbers.push(("number", self.n)),
+            Kind::Entry | Kind::Value | Kind::Edit => numbers.push(("n", self.n.to_string())),
+            Kind::String => numbers.push(("number", self.n.to_string())),
+            Kind::VendorWrite => numbers.push(("offsets", format!("{:#018X}", self.n))),
             _ => {}
         }
         numbers
@@ -135,6 +177,7 @@ impl<'a> Call<'a> {
         match self.kind {
             Kind::Write => &["fields", "values"],
             Kind::Edit => &["image", "value"],
+            Kind::VendorWrite => &["serial", "pieces"],
             _ => &["image"],
         }
     }
@@ -145,12 +188,23 @@ impl<'a> Call<'a> {
             Kind::Check | Kind::Value | Kind::String => None,
             Kind::List => Some("records"),
             Kind::Entry | Kind::Step => Some("record"),
-            Kind::Write | Kind::Edit => Some("out"),
+            Kind::Write | Kind::Edit | Kind::VendorWrite => Some("out"),
+            Kind::VendorRead => Some("payload"),
         }
     }
 
-    /// The second reader's answer. `room` and `walk` are its copies of what the call may write.
-    pub fn on_second(&self, room: &mut [u8], walk: &mut [u8]) -> u64 {
+    /// The name of the part that is written beside the room, where the call takes one: the walk of a
+    /// step, which is also read, or the block of a vendor read.
+    pub fn beside_name(&self) -> Option<&'static str> {
+        match self.kind {
+            Kind::Step => Some("walk"),
+            Kind::VendorRead => Some("block"),
+            _ => None,
+        }
+    }
+
+    /// The second reader's answer. `room` and `beside` are its copies of what the call may write.
+    pub fn on_second(&self, room: &mut [u8], beside: &mut [u8]) -> u64 {
         use second::bytes;
         let (f, e, [first, other]) = (self.format, self.edition, self.read);
         match self.kind {
@@ -159,19 +213,21 @@ impl<'a> Call<'a> {
             Kind::Entry => bytes::entry(f, e, first, self.n, room),
             Kind::Value => bytes::value(f, e, first, self.n),
             Kind::String => bytes::string(f, e, first, self.n),
-            Kind::Step => bytes::step(walk, first, room),
+            Kind::Step => bytes::step(beside, first, room),
             Kind::Write => bytes::write(f, e, first, other, room),
             Kind::Edit => bytes::edit(f, e, first, self.n, other, room),
+            Kind::VendorRead => bytes::vendor_read(f, e, first, room, beside),
+            Kind::VendorWrite => bytes::vendor_write(f, e, first, self.n, other, room),
         }
     }
 
-    /// The library's answer. `read`, `room` and `walk` are its copies of what it is lent.
-    pub fn on_library(&self, read: &[Lent; 2], room: &mut Lent, walk: &mut Lent) -> u64 {
+    /// The library's answer. `read`, `room` and `beside` are its copies of what it is lent.
+    pub fn on_library(&self, read: &[Lent; 2], room: &mut Lent, beside: &mut Lent) -> u64 {
         use exports::*;
         let (f, e, n) = (self.format, self.edition, self.n);
         let (first, first_len) = (read[0].pointer(), read[0].len());
         let (other, other_len) = (read[1].pointer(), read[1].len());
-        let (walk, walk_len) = (walk.written_pointer(), walk.len());
+        let (beside, beside_len) = (beside.written_pointer(), beside.len());
         let (out, out_len) = (room.written_pointer(), room.len());
         // Each pointer and its length come from one block, and no two parts share a block.
         unsafe {
@@ -181,12 +237,18 @@ impl<'a> Call<'a> {
                 Kind::Entry => boardid_entry(f, e, first, first_len, n, out, out_len),
                 Kind::Value => boardid_value(f, e, first, first_len, n),
                 Kind::String => boardid_string(f, e, first, first_len, n),
-                Kind::Step => boardid_step(walk, walk_len, first, first_len, out, out_len),
+                Kind::Step => boardid_step(beside, beside_len, first, first_len, out, out_len),
                 Kind::Write => {
                     boardid_write(f, e, first, first_len, other, other_len, out, out_len)
                 }
                 Kind::Edit => {
                     boardid_edit(f, e, first, first_len, n, other, other_len, out, out_len)
+                }
+                Kind::VendorRead => {
+                    boardid_vendor_read(f, e, first, first_len, out, out_len, beside, beside_len)
+                }
+                Kind::VendorWrite => {
+                    boardid_vendor_write(f, e, first, first_len, n, other, other_len, out, out_len)
                 }
             }
         }
@@ -200,6 +262,14 @@ pub fn walk_bytes(format: u32, edition: u32, entry: u64) -> [u8; 16] {
     bytes[4..8].copy_from_slice(&edition.to_le_bytes());
     bytes[8..].copy_from_slice(&entry.to_le_bytes());
     bytes
+}
+
+/// The bytes of the block that a vendor read gives of a payload with a serial of this length.
+pub fn block_bytes(serial: usize, offsets: [i8; 8]) -> Vec<u8> {
+    let serial = serial as i32;
+    let parts = [1, serial, 3 + serial, 9];
+    let words = parts.into_iter().chain(offsets.map(i32::from));
+    words.flat_map(i32::to_le_bytes).collect()
 }
 
 /// The number of an answer's refusal, or 0.

@@ -8,6 +8,7 @@ mod onie;
 mod scope;
 mod sources;
 mod sweeps;
+mod vendor;
 mod vpd_names;
 
 use crate::call::{walk_bytes, Call};
@@ -16,7 +17,7 @@ use crate::comparison::{Comparison, RECORD};
 pub type Group = fn(&mut Comparison);
 
 /// All fixed cases, in groups that can be compared side by side.
-pub const GROUPS: [(&str, Group); 32] = [
+pub const GROUPS: [(&str, Group); 38] = [
     (
         "01, Both sides of each line",
         scope::both_sides_of_each_line,
@@ -42,6 +43,12 @@ pub const GROUPS: [(&str, Group); 32] = [
     ("02, ONIE images: written", onie::written),
     ("02, ONIE images: edited", onie::edited),
     ("every declared length of ONIE", onie::declared_lengths),
+    ("02, vendor blocks: known", vendor::known),
+    ("02, vendor blocks: read", vendor::read),
+    ("02, vendor blocks: payloads", vendor::payloads),
+    ("02, vendor blocks: written", vendor::written),
+    ("02, vendor blocks: read back", vendor::read_back),
+    ("every byte of vendor extensions", vendor::every_byte),
     ("editions 2 and 3 alike", sweeps::editions_alike),
     ("every format and edition", sweeps::every_format_and_edition),
     ("every length", sweeps::every_length),

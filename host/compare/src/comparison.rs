@@ -9,8 +9,14 @@ use crate::lent::{filled, Layout, Lent};
 /// How long a record is, in bytes.
 pub const RECORD: usize = 64;
 
-/// The numbers that each call can give back (01, Numbers given back), in the order of `NAMES`.
-const CAN_GIVE: [&[usize]; 8] = [
+/// The length in bytes of the block of a vendor read.
+pub const BLOCK: usize = 48;
+
+/// The highest number that a call can give back.
+const HIGHEST: usize = 20;
+
+/// The numbers that each call can give back (01, Numbers given back; 02), in the order of `NAMES`.
+const CAN_GIVE: [&[usize]; 10] = [
     &[1, 2, 3, 4, 5, 6, 7, 8, 9, 10, 11, 16],
     &[1, 2, 3, 4, 5, 6, 7, 8, 9, 10, 11, 12, 16],
     &[1, 2, 3, 4, 5, 6, 7, 8, 9, 10, 11, 12, 13, 16],
@@ -19,6 +25,8 @@ const CAN_GIVE: [&[usize]; 8] = [
     &[1, 2, 3, 4, 5, 6, 7, 8, 9, 10, 11, 12, 13, 16],
     &[1, 2, 7, 8, 9, 11, 12, 13, 14, 16],
     &[1, 2, 3, 4, 5, 6, 7, 8, 9, 10, 11, 12, 13, 14, 16],
+    &[1, 2, 3, 4, 5, 6, 7, 8, 10, 12, 16, 17, 18, 19, 20],
+    &[1, 2, 12, 16, 18],
 ];
 
 /// What was compared, in numbers.
@@ -29,7 +37,7 @@ pub struct Tally {
     /// Differences by call, by the number that the library gave back and by the second reader's.
     differing: BTreeMap<(usize, usize, usize), u64>,
     /// Calls by kind and by the number given back, 0 where nothing was refused.
-    pub answers: [[u64; 17]; 8],
+    pub answers: [[u64; HIGHEST + 1]; 10],
     /// Records given, by reading.
     pub readings: [u64; 8],
     /// Records given with kind 0.
@@ -60,12 +68,12 @@ impl Tally {
 
     /// The counts as a table: a row for each call, a column for each number given back.
     pub fn table(&self) -> String {
-        let mut table = format!("{:<7}{:>10}", "call", "given");
-        for number in 1..17 {
+        let mut table = format!("{:<12}{:>10}", "call", "given");
+        for number in 1..=HIGHEST {
             table += &format!("{number:>8}");
         }
         for (name, row) in NAMES.iter().zip(&self.answers) {
-            table += &format!("\n{name:<7}{:>10}", row[0]);
+            table += &format!("\n{name:<12}{:>10}", row[0]);
             for count in &row[1..] {
                 let shown = match count {
                     0 => "-".to_string(),
@@ -102,7 +110,7 @@ impl Tally {
             .map(|(&(call, library, second), count)| {
                 let [library, second] = [library, second].map(shown);
                 let name = NAMES[call];
-                format!("\n  {name:<7}library {library:<6} second reader {second:<6} {count:>9}")
+                format!("\n  {name:<13}library {library:<6} second reader {second:<6} {count:>9}")
             });
         format!("differences by call:{}", lines.collect::<String>())
     }
@@ -125,6 +133,27 @@ impl Tally {
             .map(|(name, count)| format!("{name} {count}"))
             .collect();
         format!("records: {}; kind 0: {}", readings.join(", "), self.unnamed)
+    }
+}
+
+/// What the second reader left.
+struct Left {
+    answer: u64,
+    room: Written,
+    /// The walk of a step, or the block of a vendor read.
+    beside: Written,
+}
+
+/// A part that is lent to be written, before a call and after it.
+struct Written {
+    before: Vec<u8>,
+    after: Vec<u8>,
+}
+
+impl Written {
+    /// Whether a call put these bytes at the front and left all others as they were.
+    fn has_front(&self, front: &[u8]) -> bool {
+        self.after.starts_with(front) && self.after[front.len()..] == self.before[front.len()..]
     }
 }
 
@@ -184,17 +213,26 @@ impl Comparison {
 
     /// Makes a call on both, compares, and gives the second reader's answer and what it wrote.
     pub fn call(&mut self, call: &Call) -> (u64, Vec<u8>) {
+        let left = self.compared(call);
+        (left.answer, left.room.after)
+    }
+
+    fn compared(&mut self, call: &Call) -> Left {
         let before = filled(self.salt(), call.room);
+        let before_beside = match call.kind {
+            Kind::VendorRead => filled(self.salt(), call.block),
+            _ => call.walk.to_vec(),
+        };
         let mut room = before.clone();
-        let mut walk = call.walk.to_vec();
-        let answer = call.on_second(&mut room, &mut walk);
+        let mut beside = before_beside.clone();
+        let answer = call.on_second(&mut room, &mut beside);
 
         let layout = self.layout;
         let mut lend = |bytes: &[u8]| Lent::copy_of(bytes, layout, self.salt());
         let read = [lend(call.read[0]), lend(call.read[1])];
         let mut lent_room = lend(&before);
-        let mut lent_walk = lend(call.walk);
-        let from_library = call.on_library(&read, &mut lent_room, &mut lent_walk);
+        let mut lent_beside = lend(&before_beside);
+        let from_library = call.on_library(&read, &mut lent_room, &mut lent_beside);
 
         let mut wrong = Vec::new();
         if from_library != answer {
@@ -220,14 +258,28 @@ impl Comparison {
             same(name, lent, bytes);
         }
         same(call.room_name().unwrap_or("nothing"), &lent_room, &room);
-        same("walk", &lent_walk, &walk);
+        same(
+            call.beside_name().unwrap_or("nothing"),
+            &lent_beside,
+            &beside,
+        );
 
         if !wrong.is_empty() {
             let wrong = wrong.join("\n  ");
             self.differs(call, &wrong, from_library, answer);
         }
         self.count(call, answer, &room);
-        (answer, room)
+        Left {
+            answer,
+            room: Written {
+                before,
+                after: room,
+            },
+            beside: Written {
+                before: before_beside,
+                after: beside,
+            },
+        }
     }
 
     /// Makes a call whose answer is known from a document, and what it writes where that is given.
@@ -243,8 +295,24 @@ impl Comparison {
         }
     }
 
+    /// Makes a vendor call whose answer is known from a document, and what it puts at the front of what
+    /// it is lent: of a read the payload and the block, of a write the values. Bytes past them stay.
+    pub fn vendor_case(&mut self, what: &str, call: &Call, answer: u64, written: [&[u8]; 2]) {
+        let left = self.compared(call);
+        let parts = [&left.room, &left.beside].into_iter().zip(written);
+        let as_written = parts.clone().all(|(part, front)| part.has_front(front));
+        if left.answer != answer || !as_written {
+            let mut wrong = format!("the case '{what}' has {}", told(answer));
+            for (part, front) in parts {
+                let front = hex(front);
+                wrong += &format!("\n  and writes {front}\n  not {}", hex(&part.after));
+            }
+            self.differs(call, &wrong, left.answer, left.answer);
+        }
+    }
+
     fn count(&mut self, call: &Call, answer: u64, room: &[u8]) {
-        let number = refusal(answer).min(16);
+        let number = refusal(answer).min(HIGHEST);
         self.tally.answers[call.kind as usize][number] += 1;
         if number == 0 && matches!(call.kind, Kind::List | Kind::Entry | Kind::Step) {
             for record in room.chunks_exact(RECORD).take(count(answer)) {
@@ -276,6 +344,9 @@ impl Comparison {
         }
         if let Some(name) = call.room_name() {
             text += &format!("  {name}: {} bytes lent\n", call.room);
+        }
+        if call.kind == Kind::VendorRead {
+            text += &format!("  block: {} bytes lent\n", call.block);
         }
         text += &format!("  {wrong}\n");
         text += &format!("  library        {}\n", told(library));

@@ -2,8 +2,8 @@
 //!
 //!     compare [--seed N] [--inputs N] [--format F] [--first N] [--exact] [--threads N]
 //!
-//! An input is an image or a field list, and each is put through many calls. Of every call, the
-//! answer and every byte of all lent memory are compared. The fixed cases come first, then N
+//! An input is an image, a field list or a vendor write, and each is put through many calls. Of every
+//! call, the answer and every byte of all lent memory are compared. The fixed cases come first, then N
 //! generated inputs of each format. A generated input depends on the seed, its format and its number
 //! alone, so that `--first` makes any of them again. A run of all formats and of the default size or
 //! more also fails where a number that a call can give back never came up.
@@ -26,7 +26,7 @@ use comparison::{Comparison, Tally};
 use crash::Input;
 use images::image::{Format, FORMATS};
 use images::random::Random;
-use images::{damage, fields, generate};
+use images::{damage, fields, generate, vendor};
 use lent::Layout;
 
 /// How many inputs of one format a thread takes at a time.
@@ -233,7 +233,12 @@ fn perform(options: &Options, task: usize, what: Task) -> Outcome {
 
 /// Draws one input of a format and makes the calls on it.
 fn generated(compare: &mut Comparison, random: &mut Random, format: Format) {
-    match random.below(1000) {
+    // Of ONIE there are vendor blocks besides.
+    let kinds = match format {
+        Format::Onie => 1_250,
+        _ => 1_000,
+    };
+    match random.below(kinds) {
         0 | 1 => {
             let image = generate::large(random, format).bytes();
             plan::on_image(compare, random, format, &image);
@@ -259,10 +264,23 @@ fn generated(compare: &mut Comparison, random: &mut Random, format: Format) {
             let image = damage::damaged(random, image);
             plan::on_image(compare, random, format, &image);
         }
-        _ => {
+        680..=999 => {
             let edition = random.pick(format.editions());
             let list = fields::list(random, format, edition);
             plan::on_fields(compare, random, format, &list.bytes(), &list.values);
+        }
+        1_000..=1_099 => {
+            let image = vendor::amplifier(random).bytes();
+            plan::on_image(compare, random, format, &image);
+        }
+        1_100..=1_149 => {
+            let image = vendor::amplifier(random);
+            let image = damage::damaged(random, image);
+            plan::on_image(compare, random, format, &image);
+        }
+        _ => {
+            let writing = vendor::writing(random);
+            plan::on_writing(compare, random, &writing);
         }
     }
 }

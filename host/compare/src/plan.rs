@@ -1,11 +1,14 @@
-//! Which calls are made on an image or a field list.
+//! Which calls are made on an image, a field list or a vendor write.
 
-use images::generate::offered;
-use images::image::{Format, LONGEST};
+use images::fields::List;
+use images::generate::{kept, offered};
+use images::image::{Format, LONGEST, ONIE_LONGEST};
+use images::onie::EXTENSION;
 use images::random::Random;
+use images::vendor::{self, Writing, PREFIX};
 
-use crate::call::{count, refusal, walk_bytes, Call};
-use crate::comparison::{Comparison, RECORD};
+use crate::call::{block_bytes, count, refusal, walk_bytes, Call};
+use crate::comparison::{Comparison, BLOCK, RECORD};
 
 /// Formats and editions that are none, beside those that are.
 const FORMATS: [u32; 11] = [0, 1, 2, 3, 4, 5, 257, 258, 259, 260, u32::MAX];
@@ -14,6 +17,9 @@ const EDITIONS: [u32; 9] = [0, 1, 2, 3, 4, 257, 258, 259, u32::MAX];
 /// An image with more entries than this, or longer, is called on less often.
 const MANY: usize = 40;
 const LONG: usize = 4_096;
+
+/// The longest payload that is not refused: a serial of 255 bytes, and 16.
+const LONGEST_PAYLOAD: usize = 271;
 
 /// Every call on one image, as every edition that has its format, with all that is at the edges of
 /// its arguments.
@@ -31,6 +37,7 @@ pub fn on_image(compare: &mut Comparison, random: &mut Random, format: Format, i
         }
     }
     with_other_arguments(compare, random, format, image);
+    vendor_read_of_any(compare, random, image);
 }
 
 /// Calls on an image that check refuses: each must give the same refusal.
@@ -45,6 +52,10 @@ fn on_refused(compare: &mut Comparison, random: &mut Random, check: &Call) {
     compare.call(&check.step(&walk_bytes(check.format, check.edition, n), room));
     let room = output_room(random, check.read[0].len());
     compare.call(&check.edit(n, &value, room));
+    if check.format == Format::Onie.number() {
+        let room = output_room(random, LONGEST_PAYLOAD);
+        compare.call(&check.vendor_read(room, block_room(random)));
+    }
 }
 
 fn on_accepted(
@@ -77,6 +88,7 @@ fn on_accepted(
     let n = number(random, entries);
     compare.call(&check.edit(n, b"1", check.read[0].len() + 1));
     written_again(compare, random, check);
+    vendor_reads(compare, random, check);
 }
 
 fn on_large(
@@ -99,6 +111,7 @@ fn on_large(
         edits(compare, random, format, check, entries - 1);
     }
     written_again(compare, random, check);
+    vendor_reads(compare, random, check);
 }
 
 /// Lists into as many records as there are entries, into one less, and into more.
@@ -170,11 +183,11 @@ fn written_again(compare: &mut Comparison, random: &mut Random, check: &Call) {
     into_outputs(compare, random, &call);
 }
 
-/// Makes a write or an edit into outputs on both sides of the line.
+/// Makes a write, an edit or a vendor write into outputs on both sides of the line.
 pub fn into_outputs(compare: &mut Comparison, random: &mut Random, call: &Call) {
     let lent: usize = call.read.iter().map(|part| part.len()).sum();
     // With an output of any length the answer's length is known, or the refusal.
-    let mut out = vec![0; LONGEST.min(lent + 512)];
+    let mut out = vec![0; LONGEST.min(2 * lent + 512)];
     let answer = call.on_second(&mut out, &mut []);
     let with = |room| Call { room, ..*call };
     match refusal(answer) {
@@ -187,6 +200,109 @@ pub fn into_outputs(compare: &mut Comparison, random: &mut Random, call: &Call) 
         _ => {
             compare.call(&with(output_room(random, lent)));
         }
+    }
+}
+
+/// Vendor reads of an accepted ONIE image: into a buffer and a block that just fit, into one of them
+/// that is one byte short or has nothing, and into others.
+fn vendor_reads(compare: &mut Comparison, random: &mut Random, check: &Call) {
+    if check.format != Format::Onie.number() {
+        return;
+    }
+    let mut near = LONGEST_PAYLOAD;
+    // A payload that is refused is refused whatever the room.
+    if let Ok(payload) = second::vendor_read(check.format, check.edition, check.read[0], LONGEST) {
+        let length = payload.bytes.len();
+        for (room, block) in [
+            (length, BLOCK),
+            (length - 1, BLOCK),
+            (length, BLOCK - 1),
+            (length - 1, BLOCK - 1),
+            (0, BLOCK),
+            (length, 0),
+            (length + 1, 60),
+        ] {
+            compare.call(&check.vendor_read(room, block));
+        }
+        near = length;
+    }
+    let room = output_room(random, near);
+    compare.call(&check.vendor_read(room, block_room(random)));
+}
+
+/// A vendor read with any format and any edition, for which any image will do.
+fn vendor_read_of_any(compare: &mut Comparison, random: &mut Random, image: &[u8]) {
+    let (format, edition) = any_format_and_edition(random, Format::Onie);
+    let room = output_room(random, LONGEST_PAYLOAD);
+    let check = Call::check(format, edition, image);
+    compare.call(&check.vendor_read(room, block_room(random)));
+}
+
+/// Vendor writes of one payload, once with any format and any edition, and what was written read
+/// back.
+pub fn on_writing(compare: &mut Comparison, random: &mut Random, writing: &Writing) {
+    let pieces = writing.piece_bytes();
+    let (serial, offsets) = (&writing.serial, writing.offsets);
+    let call = Call::vendor_write(Format::Onie.number(), 3, serial, offsets, &pieces, 0);
+    into_outputs(compare, random, &call);
+    read_back(compare, random, writing, &call);
+    let (format, edition) = any_format_and_edition(random, Format::Onie);
+    let room = output_room(random, serial.len() + 2 * pieces.len());
+    compare.call(&Call {
+        format,
+        edition,
+        room,
+        ..call
+    });
+}
+
+/// Writes a payload, makes an image with its values as vendor extensions and other fields around
+/// them, and reads it. The three calls are the library's, and the payload is known.
+pub fn read_back(compare: &mut Comparison, random: &mut Random, writing: &Writing, write: &Call) {
+    let length = PREFIX.len() * writing.pieces.len() + 16 + writing.serial.len();
+    let room = length.min(LONGEST);
+    let (answer, values) = compare.call(&Call { room, ..*write });
+    if refusal(answer) != 0 {
+        return;
+    }
+    let mut list = List::default();
+    let mut rest = &values[..];
+    for (number, &piece) in writing.pieces.iter().enumerate() {
+        let other = random.pick(&[EXTENSION, 0x21, 0x2A, 0x2D]);
+        if other == EXTENSION && random.once_in(2) {
+            list.add(other.into(), &[], &PREFIX[..4]);
+        } else if number == 0 && other != EXTENSION {
+            let value = kept(random, Format::Onie, other);
+            list.add(other.into(), &[], &value);
+        }
+        let (value, after) = rest.split_at(PREFIX.len() + piece as usize);
+        list.add(EXTENSION.into(), &[], value);
+        rest = after;
+    }
+    let fields = list.bytes();
+    let call = Call::write(
+        write.format,
+        write.edition,
+        &fields,
+        &list.values,
+        ONIE_LONGEST,
+    );
+    let (answer, mut image) = compare.call(&call);
+    // The image does not hold more than 2,048 bytes.
+    if refusal(answer) != 0 {
+        return;
+    }
+    image.truncate(count(answer));
+    let payload = vendor::payload(&writing.serial, &vendor::block(writing.offsets()));
+    let block = block_bytes(writing.serial.len(), writing.offsets());
+    let read = Call::check(write.format, write.edition, &image);
+    for (room, block_room) in [(payload.len(), BLOCK), (payload.len() + 9, 60)] {
+        compare.vendor_case(
+            "what was written reads back",
+            &read.vendor_read(room, block_room),
+            (payload.len() as u64) << 32,
+            [&payload, &block],
+        );
     }
 }
 
@@ -259,6 +375,7 @@ pub fn on_beginnings(compare: &mut Comparison, format: Format, image: &[u8]) {
             compare.call(&check.string(0));
             compare.call(&check.step(&walk_bytes(check.format, edition, 0), RECORD));
             compare.call(&check.edit(0, b"B", length + 8));
+            compare.call(&check.vendor_read(LONGEST_PAYLOAD, BLOCK));
         }
     }
 }
@@ -278,6 +395,11 @@ fn number(random: &mut Random, there_are: usize) -> u64 {
 /// The length of a lent record: whole, cut short, or more than one.
 fn record_room(random: &mut Random) -> usize {
     random.pick(&[RECORD, RECORD, RECORD, 0, 1, 63, 65, 127, 128])
+}
+
+/// The length of a lent block: whole, cut short, or more.
+fn block_room(random: &mut Random) -> usize {
+    random.pick(&[BLOCK, BLOCK, BLOCK, 0, 1, 47, 49, 60, 96])
 }
 
 /// The length of an output: near what is asked for, the longest that there is, or one byte more.

@@ -106,80 +106,86 @@ fn any_payload(random: &mut Random) -> Vec<u8> {
         _ => random.text(length),
     };
     let mut block = block(offsets(random));
-    let wrong = match random.below(8) {
-        0..=3 => 0,
-        4..=6 => 1,
-        _ => random.between(2, 3),
+    let (in_block, in_length, in_check) = match random.below(16) {
+        0..=7 => (false, false, false),
+        8 | 9 => (true, false, false),
+        10 | 11 => (false, true, false),
+        12 | 13 => (false, false, true),
+        _ => (random.once_in(2), random.once_in(2), random.once_in(2)),
     };
-    let in_block = usize::from(wrong > 0 && random.once_in(2));
-    if in_block == 1 {
+    if in_block {
         spoil_block(random, &mut block);
     }
     let mut payload = payload(&serial, &block);
-    for _ in in_block..wrong {
-        spoil_payload(random, &mut payload, length);
+    if in_length {
+        spoil_length(random, &mut payload, length);
+        if random.once_in(2) {
+            seal(&mut payload);
+        }
+    }
+    if in_check {
+        spoil_check(random, &mut payload);
     }
     payload
 }
 
-/// Gives a block another version or another length. The payload's length and check are right for it.
+/// Gives a block another version or another length, for which the payload's length and check are right.
 fn spoil_block(random: &mut Random, block: &mut Vec<u8>) {
-    match random.below(3) {
-        0 => block[0] = random.pick(&[0x01, 0x01, 0x02, 0x80, 0xFF]),
+    match random.below(4) {
+        0 | 1 => block[0] = random.pick(&[0x01, 0x01, 0x02, 0x80, 0xFF]),
         // With 265 bytes the low byte of the length is nine.
-        1 => block.resize(
-            random.pick(&[0, 1, 7, 8, 10, 11, 18, 255, 256, 265, 300]),
-            0x00,
-        ),
+        2 => {
+            let length = random.pick(&[0, 1, 7, 8, 10, 11, 18, 255, 256, 265, 300]);
+            block.resize(length, 0x00);
+        }
         _ => {
             block.remove(0);
         }
     }
 }
 
-/// Does one wrong thing to a payload whose serial has that many bytes. In half the check is made right
-/// again.
-fn spoil_payload(random: &mut Random, payload: &mut Vec<u8>, serial: usize) {
+/// Makes a payload, whose serial has that many bytes, longer or shorter than its parts.
+fn spoil_length(random: &mut Random, payload: &mut Vec<u8>, serial: usize) {
     let length = payload.len();
     let block_length = serial + 1;
-    match random.below(12) {
+    let off_by_one = |byte: u8| [byte.wrapping_add(1), byte.wrapping_sub(1)];
+    match random.below(8) {
         // One byte too long or too short, at the end or before the check.
-        0 | 1 => payload.push(random.byte()),
-        2 | 3 => {
+        0 => payload.push(random.byte()),
+        1 => {
             payload.pop();
         }
-        4 if length > 4 => payload.insert(length - 4, random.pick(&[0x00, 0xFF])),
-        5 if length > 4 => {
+        2 => payload.insert(length - 4, random.pick(&[0x00, 0xFF])),
+        3 => {
             payload.remove(length - 5);
         }
-        // A length that is off by one, or has its bytes the other way round.
-        6 if length > 0 => {
-            payload[0] = random.pick(&[payload[0].wrapping_add(1), payload[0].wrapping_sub(1)])
-        }
-        7 if length > block_length + 1 => {
-            let low = payload[block_length + 1];
-            payload[block_length + 1] = random.pick(&[low.wrapping_add(1), low.wrapping_sub(1)]);
-        }
-        8 if length > block_length + 1 => match random.below(2) {
+        // A length that is off by one, has its bytes the other way round, or has a high byte.
+        4 => payload[0] = random.pick(&off_by_one(payload[0])),
+        5 => payload[block_length + 1] = random.pick(&off_by_one(payload[block_length + 1])),
+        6 => match random.below(2) {
             0 => payload.swap(block_length, block_length + 1),
             _ => payload[block_length] = random.pick(&[0x01, 0x80, 0xFF]),
         },
-        // A payload that ends anywhere, or has nothing.
-        9 => payload.truncate(random.below(length + 1)),
-        // A wrong check, or one with its bytes the other way round.
-        10 if length > 4 => payload[length - 4..].reverse(),
-        _ if length > 0 => {
-            let place = match random.below(2) {
-                0 => length - 1 - random.below(length.min(5)),
-                _ => random.below(length),
-            };
-            payload[place] ^= 1 << random.below(8);
-            return;
-        }
-        _ => {}
+        // A payload that ends anywhere.
+        _ => payload.truncate(random.below(length)),
     }
-    if random.once_in(2) {
-        seal(payload);
+}
+
+/// Makes the check of a payload wrong: a bit of it, its bytes the other way round, over one byte less
+/// at either end, or a bit of what it is over.
+fn spoil_check(random: &mut Random, payload: &mut [u8]) {
+    let Some(check) = payload.len().checked_sub(4) else {
+        return;
+    };
+    let (covered, stored) = payload.split_at_mut(check);
+    match random.below(4) {
+        0 => stored.reverse(),
+        1 if check > 0 => {
+            let less = random.pick(&[&covered[1..], &covered[..check - 1]]);
+            stored.copy_from_slice(&check32(less).to_be_bytes());
+        }
+        2 if check > 0 => covered[random.below(check)] ^= 1 << random.below(8),
+        _ => stored[random.below(4)] ^= 1 << random.below(8),
     }
 }
 

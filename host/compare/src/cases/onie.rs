@@ -114,12 +114,12 @@ const NO_TEXT: Values = &[
 ];
 
 /// The bytes of one entry, its value at most 255 bytes long.
-fn entry(code: u8, value: &[u8]) -> Vec<u8> {
+pub fn entry(code: u8, value: &[u8]) -> Vec<u8> {
     Entry::new(code, value.to_vec()).bytes(Format::Onie)
 }
 
 /// An image whose entries have these bytes, right but for what they make wrong.
-fn image(entries: &[u8]) -> Vec<u8> {
+pub fn image(entries: &[u8]) -> Vec<u8> {
     let rest = [entries, b"\xFE\x04"].concat();
     let mut image = declaring(rest.len() + 4, &rest);
     image.extend(check32(&image).to_be_bytes());

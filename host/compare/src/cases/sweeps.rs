@@ -10,6 +10,7 @@ use super::onie::SWITCH;
 use super::scope::every_tag_image;
 use super::sources::{fboss_example_image, vpd_example_image};
 use super::*;
+use crate::comparison::BLOCK;
 use crate::plan;
 
 /// The four small images of the sweeps.
@@ -26,11 +27,12 @@ fn small_images() -> [(Format, Vec<u8>); 4] {
     ]
 }
 
-/// All eight calls with every format and edition, known or not, on images of every format.
+/// All ten calls with every format and edition, known or not, on images of every format.
 pub fn every_format_and_edition(compare: &mut Comparison) {
     let mut fields = List::default();
     fields.add(1, b"SKU", b"A7");
     let field_bytes = fields.bytes();
+    let pieces = 17_u32.to_le_bytes();
     for (_, image) in small_images() {
         for format in [
             0,
@@ -78,6 +80,10 @@ pub fn every_format_and_edition(compare: &mut Comparison) {
                     let values = &fields.values;
                     compare.call(&Call::write(format, edition, &field_bytes, values, room));
                     compare.call(&check.edit(1, b"A7", room));
+                    compare.call(&check.vendor_read(room, BLOCK));
+                    compare.call(&Call::vendor_write(
+                        format, edition, b"S", 0x80, &pieces, room,
+                    ));
                 }
             }
         }
