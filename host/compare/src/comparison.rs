@@ -12,6 +12,9 @@ pub const RECORD: usize = 64;
 /// The length in bytes of the block of a vendor read.
 pub const BLOCK: usize = 48;
 
+/// A part with more bytes than this is not shown in full.
+const SHOWN: usize = 1 << 20;
+
 /// The highest number that a call can give back.
 const HIGHEST: usize = 20;
 
@@ -334,7 +337,12 @@ impl Comparison {
             text += &format!("  {name}: {number}\n");
         }
         let mut part = |name: &str, bytes: &[u8]| {
-            text += &format!("  {name}, {} bytes: {}\n", bytes.len(), hex(bytes));
+            // Of millions of bytes the first are enough.
+            let shown = match bytes.len() {
+                0..=SHOWN => hex(bytes),
+                _ => hex(&bytes[..64]) + " ..",
+            };
+            text += &format!("  {name}, {} bytes: {shown}\n", bytes.len());
         };
         if call.kind == Kind::Step {
             part("walk", call.walk);

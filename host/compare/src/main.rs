@@ -235,7 +235,7 @@ fn perform(options: &Options, task: usize, what: Task) -> Outcome {
 fn generated(compare: &mut Comparison, random: &mut Random, format: Format) {
     // Of ONIE there are vendor blocks besides.
     let kinds = match format {
-        Format::Onie => 1_250,
+        Format::Onie => 1_300,
         _ => 1_000,
     };
     match random.below(kinds) {
@@ -269,11 +269,11 @@ fn generated(compare: &mut Comparison, random: &mut Random, format: Format) {
             let list = fields::list(random, format, edition);
             plan::on_fields(compare, random, format, &list.bytes(), &list.values);
         }
-        1_000..=1_099 => {
+        1_000..=1_149 => {
             let image = vendor::amplifier(random).bytes();
             plan::on_image(compare, random, format, &image);
         }
-        1_100..=1_149 => {
+        1_150..=1_199 => {
             let image = vendor::amplifier(random);
             let image = damage::damaged(random, image);
             plan::on_image(compare, random, format, &image);

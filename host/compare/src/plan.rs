@@ -266,14 +266,13 @@ pub fn read_back(compare: &mut Comparison, random: &mut Random, writing: &Writin
         return;
     }
     let mut list = List::default();
+    let other = random.pick(&[0x21, 0x24, 0x2A, 0x2D]);
+    list.add(other.into(), &[], &kept(random, Format::Onie, other));
     let mut rest = &values[..];
-    for (number, &piece) in writing.pieces.iter().enumerate() {
-        let other = random.pick(&[EXTENSION, 0x21, 0x2A, 0x2D]);
-        if other == EXTENSION && random.once_in(2) {
-            list.add(other.into(), &[], &PREFIX[..4]);
-        } else if number == 0 && other != EXTENSION {
-            let value = kept(random, Format::Onie, other);
-            list.add(other.into(), &[], &value);
+    for &piece in &writing.pieces {
+        if random.once_in(4) {
+            let foreign = random.pick(&[&PREFIX[..4], b"\x00\x00\x1F\x79\x01\x08"]);
+            list.add(EXTENSION.into(), &[], foreign);
         }
         let (value, after) = rest.split_at(PREFIX.len() + piece as usize);
         list.add(EXTENSION.into(), &[], value);
@@ -397,9 +396,12 @@ fn record_room(random: &mut Random) -> usize {
     random.pick(&[RECORD, RECORD, RECORD, 0, 1, 63, 65, 127, 128])
 }
 
-/// The length of a lent block: whole, cut short, or more.
+/// The length of a lent block: whole, cut short, or more, which is never too long.
 fn block_room(random: &mut Random) -> usize {
-    random.pick(&[BLOCK, BLOCK, BLOCK, 0, 1, 47, 49, 60, 96])
+    match random.below(64) {
+        0 => LONGEST + 1,
+        _ => random.pick(&[BLOCK, BLOCK, BLOCK, 0, 1, 47, 49, 60, 96]),
+    }
 }
 
 /// The length of an output: near what is asked for, the longest that there is, or one byte more.

@@ -135,7 +135,7 @@ fn spoil_block(random: &mut Random, block: &mut Vec<u8>) {
         0 | 1 => block[0] = random.pick(&[0x01, 0x01, 0x02, 0x80, 0xFF]),
         // With 265 bytes the low byte of the length is nine.
         2 => {
-            let length = random.pick(&[0, 1, 7, 8, 10, 11, 18, 255, 256, 265, 300]);
+            let length = random.pick(&[0, 0, 0, 1, 8, 8, 10, 10, 18, 255, 256, 265, 300]);
             block.resize(length, 0x00);
         }
         _ => {
@@ -322,12 +322,18 @@ impl Writing {
 
 /// A vendor write: with pieces that sum to the payload in half, else with something wrong.
 pub fn writing(random: &mut Random) -> Writing {
-    let length = match random.below(6) {
-        0 => random.pick(&[254, 255, 256, 257, 300, 511, 65_536]),
+    let length = match random.below(48) {
+        0 => random.pick(&[511, 512, 65_536, 65_537, 70_000]),
+        1..=7 => random.pick(&[254, 255, 256, 257, 300]),
         _ => serial_length(random),
     };
     let serial = random.bytes(length);
-    let pieces = lengths(random, 16 + length);
+    // The pieces of a serial above 255 bytes are in some right for the low byte of its length.
+    let told = match length > 255 && random.once_in(2) {
+        true => length % 256,
+        false => length,
+    };
+    let pieces = lengths(random, 16 + told);
     let pieces = pieces.into_iter().map(|length| length as u32).collect();
     let mut writing = Writing::new(serial, offsets(random), pieces);
     if random.once_in(2) {
@@ -389,11 +395,18 @@ fn spoil_pieces(random: &mut Random, pieces: &mut Vec<u32>) {
         // Lengths far above, of which the low bits are right.
         7 => pieces[at] = piece | random.pick(&[1 << 8, 1 << 16, 1 << 24, 1 << 31]),
         8 => pieces[at] = random.pick(&[u32::MAX, 1 << 31, 65_536, piece.swap_bytes()]),
-        // Lengths whose sum wraps to the payload's length.
-        _ => {
-            let half = random.pick(&[1_u32 << 31, u32::MAX, 24, 250]);
-            pieces.insert(at, half);
-            pieces.insert(random.between(0, count), half.wrapping_neg());
-        }
+        // Lengths whose sum wraps to the payload's length, of pieces that are too long or not.
+        _ => match random.below(2) {
+            0 => {
+                let half = random.pick(&[1_u32 << 31, u32::MAX, 24, 250]);
+                pieces.insert(at, half);
+                pieces.insert(random.between(0, count), half.wrapping_neg());
+            }
+            _ => {
+                let lost = random.pick(&[1 << 8, 1 << 8, 1 << 16]);
+                pieces.extend(vec![250; lost / 250]);
+                pieces.push((lost % 250) as u32);
+            }
+        },
     }
 }
