@@ -1,24 +1,24 @@
 /*
- * A fuzz harness over the eight calls of libboardid.a, for libFuzzer.
+ * A fuzz harness over the ten calls of libboardid.a, for libFuzzer.
  *
  * It needs no second implementation: it holds the calls to what document 01 says of all of them,
  * and to each other. A call that is refused leaves lent memory as it was, an accepted write or edit
- * is read back, a list is what its entries say one by one, and so on. Where something does not hold
- * the program stops.
+ * is read back, a list is what its entries say one by one, a payload is what the vendor extensions of
+ * a list hold, and so on. Where something does not hold the program stops.
  *
  * An input is seven bytes, then the second part, then the first part:
  *
- *   0     the call: check, list, entry, value, string, step, write, edit
+ *   0     the call: check, list, entry, value, string, step, write, edit, vendor read, vendor write
  *   1     the format, by number in FORMATS
  *   2     the edition, by number in EDITIONS
- *   3     n, or by number in NUMBERS from F0h on
+ *   3     n, or by number in NUMBERS from F0h on; the offsets of a vendor write are a multiple of it
  *   4     bits 0 to 2: how much memory is lent, by number in `room_of`; bit 3: the image is given
  *         right checks first, and of ONIE the right length; bits 4 to 7: how many bytes of a walk
- *         are cut off
+ *         are cut off, or how long a block is, by number in BLOCKS
  *   5, 6  the length of the second part, low byte first
  *
- * The first part is the image, or the fields of a write. The second part is the new value of an
- * edit, or the values of a write.
+ * The first part is the image, the fields of a write, or the pieces of a vendor write. The second
+ * part is the new value of an edit, the values of a write, or the serial of a vendor write.
  */
 
 #define _DEFAULT_SOURCE /* MAP_ANONYMOUS */
@@ -46,17 +46,27 @@ uint64_t boardid_write(uint32_t format, uint32_t edition, const uint8_t *fields,
 uint64_t boardid_edit(uint32_t format, uint32_t edition, const uint8_t *image, size_t image_len,
                       uint64_t n, const uint8_t *value, size_t value_len, uint8_t *out,
                       size_t out_len);
+uint64_t boardid_vendor_read(uint32_t format, uint32_t edition, const uint8_t *image,
+                             size_t image_len, uint8_t *payload, size_t payload_len, uint8_t *block,
+                             size_t block_len);
+uint64_t boardid_vendor_write(uint32_t format, uint32_t edition, const uint8_t *serial,
+                              size_t serial_len, uint64_t offsets, const uint8_t *pieces,
+                              size_t pieces_len, uint8_t *out, size_t out_len);
 
-enum { CHECK, LIST, ENTRY, VALUE, STRING, STEP, WRITE, EDIT };
+enum { CHECK, LIST, ENTRY, VALUE, STRING, STEP, WRITE, EDIT, VENDOR_READ, VENDOR_WRITE, CALLS };
 
 #define LONGEST 65536u
 #define RECORD 64u
 #define FIELD 20u
 #define WALK 16u
+#define BLOCK 48u
+#define PREFIX 5u
 
 static const uint32_t FORMATS[8] = {1, 2, 3, 0, 4, 257, 260, UINT32_MAX};
 static const uint32_t EDITIONS[8] = {1, 2, 0, 3, 4, 257, 259, UINT32_MAX};
 #define NEWEST 3u
+static const uint8_t BLOCKS[16] = {48, 48, 48, 47, 0, 49, 60, 96, 1, 4, 16, 32, 44, 46, 64, 95};
+#define LONGEST_BLOCK 96u
 static const uint64_t NUMBERS[16] = {
     0xF0, 0xFF, 0x100, 0x101, 0x7FFF, 0xFFFF, 0x10000, 0x7FFFFFFF,
     0x80000000, 0xFFFFFFFF, 0x100000000, 0x100000001, 1ull << 58, 1ull << 63, UINT64_MAX - 1,
@@ -73,7 +83,7 @@ static const uint64_t NUMBERS[16] = {
 
 /* libFuzzer takes these for coverage. The library has no counters of its own, so the answers it gives
    stand in for them. */
-__attribute__((section("__libfuzzer_extra_counters"))) static uint8_t counters[8 * 32 * 64];
+__attribute__((section("__libfuzzer_extra_counters"))) static uint8_t counters[CALLS * 32 * 64];
 
 static unsigned log2_of(uint64_t number) {
     unsigned bits = 0;
@@ -106,7 +116,7 @@ struct lent {
 
 /* Room for the longest part of each kind, between two guard pages. */
 #define ROOM (8u << 20)
-enum { FIRST, OTHER, OUT, THE_WALK, PARTS };
+enum { FIRST, OTHER, OUT, BESIDE, PARTS };
 static uint8_t *arenas[PARTS];
 static size_t page;
 
@@ -157,27 +167,37 @@ static uint8_t *filled(size_t len) {
     return bytes;
 }
 
+/* What is written beside the output: a walk, or a block. Gives its length. */
+static size_t before_beside(const struct request *r, uint8_t *beside) {
+    if (r->call == VENDOR_READ) {
+        for (unsigned i = 0; i < LONGEST_BLOCK; i++) beside[i] = (uint8_t)(i * 89 + 37);
+        return BLOCKS[r->cut];
+    }
+    for (int i = 0; i < 4; i++) {
+        beside[i] = (uint8_t)(r->format >> 8 * i);
+        beside[4 + i] = (uint8_t)(r->edition >> 8 * i);
+    }
+    for (int i = 0; i < 8; i++) beside[8 + i] = (uint8_t)(r->n >> 8 * i);
+    return WALK - r->cut;
+}
+
 /*
  * Makes the call of a request in every way, with so much memory lent, and holds it to what is true of
  * any call: the answer is one of the table, only what is lent to be written is written, and nothing
- * where the call is refused. Gives the answer, and what was written in `out`.
+ * where the call is refused. Gives the answer, what was written in `out`, and the block of a vendor
+ * read in `block`.
  */
-static uint64_t make(const struct request *r, uint8_t *out, size_t out_len) {
+static uint64_t make(const struct request *r, uint8_t *out, size_t out_len, uint8_t *block) {
     uint8_t *before = filled(out_len);
-    uint8_t walk[WALK];
-    size_t walk_len = WALK - r->cut;
-    for (int i = 0; i < 4; i++) {
-        walk[i] = (uint8_t)(r->format >> 8 * i);
-        walk[4 + i] = (uint8_t)(r->edition >> 8 * i);
-    }
-    for (int i = 0; i < 8; i++) walk[8 + i] = (uint8_t)(r->n >> 8 * i);
+    uint8_t beside[LONGEST_BLOCK];
+    size_t beside_len = before_beside(r, beside);
 
     uint64_t answer = 0;
     for (int way = 0; way < WAYS; way++) {
         struct lent a = lend(way, FIRST, r->first, r->first_len);
         struct lent b = lend(way, OTHER, r->other, r->other_len);
         struct lent o = lend(way, OUT, before, out_len);
-        struct lent w = lend(way, THE_WALK, walk, walk_len);
+        struct lent w = lend(way, BESIDE, beside, beside_len);
         uint32_t f = r->format, e = r->edition;
         uint64_t given = 0;
         switch (r->call) {
@@ -190,28 +210,44 @@ static uint64_t make(const struct request *r, uint8_t *out, size_t out_len) {
         case WRITE:
             given = boardid_write(f, e, a.bytes, a.len, b.bytes, b.len, o.bytes, o.len);
             break;
-        default:
+        case EDIT:
             given = boardid_edit(f, e, a.bytes, a.len, r->n, b.bytes, b.len, o.bytes, o.len);
+            break;
+        case VENDOR_READ:
+            given = boardid_vendor_read(f, e, a.bytes, a.len, o.bytes, o.len, w.bytes, w.len);
+            break;
+        default:
+            given = boardid_vendor_write(f, e, b.bytes, b.len, r->n, a.bytes, a.len, o.bytes,
+                                         o.len);
             break;
         }
         HOLDS(same(a.bytes, r->first, a.len));
         HOLDS(same(b.bytes, r->other, b.len));
         if (refusal(given) != 0) {
             HOLDS(same(o.bytes, before, o.len));
-            HOLDS(same(w.bytes, walk, w.len));
+            HOLDS(same(w.bytes, beside, w.len));
         } else if (r->call == STEP) {
             uint64_t next = r->n + 1;
-            HOLDS(w.len == WALK && same(w.bytes, walk, 8));
+            HOLDS(w.len == WALK && same(w.bytes, beside, 8));
             for (int i = 0; i < 8; i++) HOLDS(w.bytes[8 + i] == (uint8_t)(next >> 8 * i));
+        } else if (r->call == VENDOR_READ) {
+            HOLDS(w.len >= BLOCK && same(w.bytes + BLOCK, beside + BLOCK, w.len - BLOCK));
         } else {
-            HOLDS(same(w.bytes, walk, w.len));
+            HOLDS(same(w.bytes, beside, w.len));
+        }
+        if (refusal(given) == 0 && (r->call == VENDOR_READ || r->call == VENDOR_WRITE)) {
+            /* Bytes past the payload or the values stay. */
+            uint64_t len = count(given);
+            HOLDS(len <= o.len && same(o.bytes + len, before + len, o.len - len));
         }
         if (way == HEAP) {
             answer = given;
             if (out_len > 0) memcpy(out, o.bytes, out_len);
+            if (r->call == VENDOR_READ && w.len >= BLOCK) memcpy(block, w.bytes, BLOCK);
         }
         HOLDS(given == answer);
         HOLDS(same(o.bytes, out, out_len));
+        if (r->call == VENDOR_READ && w.len >= BLOCK) HOLDS(same(w.bytes, block, BLOCK));
         take_back(way, a);
         take_back(way, b);
         take_back(way, o);
@@ -221,7 +257,7 @@ static uint64_t make(const struct request *r, uint8_t *out, size_t out_len) {
     counted(r->call, answer);
 
     unsigned number = refusal(answer);
-    HOLDS(number <= 16);
+    HOLDS(number <= (r->call == VENDOR_READ || r->call == VENDOR_WRITE ? 20 : 16));
     if (number != 0 && !(number >= 5 && number <= 10) && number != 14) {
         HOLDS(place(answer) == 0 || (r->call == WRITE && number == 13));
     }
@@ -362,6 +398,106 @@ static void hold_edit(const struct request *r, const uint8_t *out, size_t out_le
     free(old);
 }
 
+/* What a vendor extension begins with where a piece of a payload follows. */
+static const uint8_t prefix[PREFIX] = {0x00, 0x00, 0x1F, 0x79, 0x00};
+
+static uint32_t check32(const uint8_t *bytes, size_t len) {
+    uint32_t check = UINT32_MAX;
+    for (size_t i = 0; i < len; i++) {
+        check ^= bytes[i];
+        for (int bit = 0; bit < 8; bit++) check = check >> 1 ^ (check & 1) * 0xEDB88320u;
+    }
+    return ~check;
+}
+
+/* A payload that a read gives: its parts fill it, its check is right, and the block has its offsets. */
+static void hold_payload(const uint8_t *payload, uint64_t len, const uint8_t *block) {
+    HOLDS(len >= 16);
+    uint32_t serial = payload[0];
+    HOLDS(len == 16 + serial);
+    const uint8_t *rest = payload + 1 + serial;
+    HOLDS(rest[0] == 0 && rest[1] == 9 && rest[2] == 0);
+    uint32_t check = check32(payload, len - 4);
+    for (int i = 0; i < 4; i++) HOLDS(payload[len - 4 + i] == (uint8_t)(check >> (24 - 8 * i)));
+    HOLDS(word(block, 0) == 1 && word(block, 1) == serial);
+    HOLDS(word(block, 2) == 3 + serial && word(block, 3) == 9);
+    for (unsigned k = 0; k < 8; k++) {
+        HOLDS((int32_t)word(block, 4 + k) == (int8_t)rest[3 + k]);
+    }
+}
+
+/* A vendor read: after what check refuses, it is about what the matching entries of the list hold. */
+static void hold_vendor_read(const struct request *r, uint64_t answer, const uint8_t *out,
+                             size_t out_len, const uint8_t *block) {
+    if (r->format != 4 || r->edition != 3 || r->first_len > LONGEST || out_len > LONGEST) {
+        HOLDS(refusal(answer) == 16 || refusal(answer) == 1 || refusal(answer) == 2);
+        return;
+    }
+    uint64_t entries;
+    uint8_t *records = listed(r->format, r->edition, r->first, r->first_len, &entries);
+    if (records == NULL) {
+        HOLDS(answer == boardid_check(r->format, r->edition, r->first, r->first_len));
+        return;
+    }
+    uint8_t joined[2048];
+    uint64_t len = 0;
+    int matching = 0;
+    for (uint64_t i = 0; i < entries; i++) {
+        const uint8_t *record = records + i * RECORD, *value = r->first + word(record, 5);
+        uint32_t value_len = word(record, 6);
+        if (word(record, 0) != 0xFD || value_len < PREFIX || !same(value, prefix, PREFIX)) continue;
+        matching = 1;
+        memcpy(joined + len, value + PREFIX, value_len - PREFIX);
+        len += value_len - PREFIX;
+    }
+    free(records);
+    unsigned number = refusal(answer);
+    HOLDS(number == 0 || number == 12 || (number >= 17 && number <= 20));
+    HOLDS((number == 17) == !matching);
+    if (number == 12) HOLDS(out_len < len || BLOCKS[r->cut] < BLOCK);
+    if (number == 0 || number == 12) HOLDS(len >= 16);
+    if (number == 0) {
+        HOLDS(count(answer) == len && same(out, joined, len));
+        hold_payload(out, len, block);
+    }
+}
+
+/* A vendor write that is accepted: the prefix and a piece, one after another. Put into an image they
+   read back. */
+static void hold_vendor_write(const struct request *r, const uint8_t *out, uint64_t len) {
+    uint64_t pieces = r->first_len / 4, at = 0, sum = 0;
+    uint8_t payload[512], block[BLOCK], image[2059], read[512];
+    uint8_t *fields = malloc(pieces * FIELD + 1);
+    for (uint64_t i = 0; i < pieces; i++) {
+        uint32_t piece = word(r->first, (unsigned)i);
+        HOLDS(piece <= 250 && at + PREFIX + piece <= len && same(out + at, prefix, PREFIX));
+        HOLDS(sum + piece <= sizeof payload);
+        if (piece > 0) memcpy(payload + sum, out + at + PREFIX, piece);
+        uint32_t words[5] = {0xFD, 0, 0, (uint32_t)at, PREFIX + piece};
+        for (unsigned k = 0; k < FIELD; k++) {
+            fields[i * FIELD + k] = (uint8_t)(words[k / 4] >> 8 * (k % 4));
+        }
+        at += PREFIX + piece;
+        sum += piece;
+    }
+    HOLDS(at == len && sum == 16 + r->other_len);
+    HOLDS(payload[0] == r->other_len && same(payload + 1, r->other, r->other_len));
+    for (unsigned k = 0; k < 8; k++) {
+        HOLDS(payload[4 + r->other_len + k] == (uint8_t)(r->n >> 8 * k));
+    }
+    uint64_t made = boardid_write(4, 3, fields, pieces * FIELD, out, len, image, sizeof image);
+    /* More than an image holds. */
+    if (refusal(made) != 0) {
+        HOLDS(refusal(made) == 12 && pieces * (2 + PREFIX) + sum > 2042);
+    } else {
+        uint64_t answer =
+            boardid_vendor_read(4, 3, image, count(made), read, sum, block, sizeof block);
+        HOLDS(answer == sum << 32 && same(read, payload, sum));
+        hold_payload(read, sum, block);
+    }
+    free(fields);
+}
+
 /* How much memory is lent to be written, by the number of a mode and what just suffices. */
 static size_t room_of(unsigned mode, size_t enough) {
     switch (mode) {
@@ -404,14 +540,27 @@ static void seal(uint32_t format, uint8_t *image, size_t len) {
         if (at + 6 > len) return;
         image[9] = (uint8_t)((at - 5) >> 8);
         image[10] = (uint8_t)(at - 5);
-        uint32_t check = UINT32_MAX;
-        for (size_t i = 0; i < at + 2; i++) {
-            check ^= image[i];
-            for (int bit = 0; bit < 8; bit++) check = check >> 1 ^ (check & 1) * 0xEDB88320u;
-        }
-        check = ~check;
+        uint32_t check = check32(image, at + 2);
         for (int i = 0; i < 4; i++) image[at + 2 + i] = (uint8_t)(check >> (24 - 8 * i));
     }
+}
+
+/* Gives the payload of an ONIE image its right check, wherever the pieces lie. */
+static void seal_payload(uint8_t *image, size_t len) {
+    uint8_t joined[4096];
+    size_t places[4096], count = 0;
+    for (size_t at = 11; at + 6 <= len && image[at] != 0xFE; at += 2 + (size_t)image[at + 1]) {
+        size_t end = at + 2 + image[at + 1];
+        if (end > len || image[at] != 0xFD || image[at + 1] < PREFIX) continue;
+        if (!same(image + at + 2, prefix, PREFIX)) continue;
+        for (size_t i = at + 2 + PREFIX; i < end && count < sizeof joined; i++) {
+            joined[count] = image[i];
+            places[count++] = i;
+        }
+    }
+    if (count < 4) return;
+    uint32_t check = check32(joined, count - 4);
+    for (int i = 0; i < 4; i++) image[places[count - 4 + i]] = (uint8_t)(check >> (24 - 8 * i));
 }
 
 int LLVMFuzzerTestOneInput(const uint8_t *data, size_t size) {
@@ -422,7 +571,7 @@ int LLVMFuzzerTestOneInput(const uint8_t *data, size_t size) {
 #ifdef ONLY
         .call = ONLY, /* this call, whatever the input says */
 #else
-        .call = data[0] % 8,
+        .call = data[0] % CALLS,
 #endif
         .format = FORMATS[data[1] % 8],
         .edition = EDITIONS[data[2] % 8],
@@ -437,28 +586,37 @@ int LLVMFuzzerTestOneInput(const uint8_t *data, size_t size) {
     r.first_len = rest - r.other_len;
     uint8_t *first = malloc(r.first_len + 1);
     memcpy(first, r.other + r.other_len, r.first_len);
-    if ((data[4] & 8) != 0 && r.call != WRITE) seal(r.format, first, r.first_len);
+    int on_image = r.call != WRITE && r.call != VENDOR_WRITE;
+    if ((data[4] & 8) != 0 && on_image) {
+        if (r.call == VENDOR_READ) seal_payload(first, r.first_len);
+        seal(r.format, first, r.first_len);
+    }
     r.first = first;
+    /* Offsets that differ in every byte. */
+    if (r.call == VENDOR_WRITE) r.n *= 0x9E3779B97F4A7C15u;
 
     /* What just suffices is a list's count, one record, or what a roomy output shows. */
     size_t enough = 0;
     size_t roomy = 2 * rest + 512 < LONGEST ? 2 * rest + 512 : LONGEST;
     uint8_t *out = malloc(roomy);
+    uint8_t block[BLOCK];
     if (r.call == LIST) {
         uint64_t answer = boardid_check(r.format, r.edition, r.first, r.first_len);
         enough = refusal(answer) == 0 ? count(answer) * RECORD : RECORD;
     } else if (r.call == ENTRY || r.call == STEP) {
         enough = RECORD;
-    } else if (r.call == WRITE || r.call == EDIT) {
-        uint64_t answer = make(&r, out, roomy);
+    } else if (r.call >= WRITE) {
+        uint64_t answer = make(&r, out, roomy, block);
         enough = refusal(answer) == 0 ? count(answer) : 64;
         if (refusal(answer) == 0 && r.call == WRITE) hold_write(&r, out, roomy, enough);
         if (refusal(answer) == 0 && r.call == EDIT) hold_edit(&r, out, roomy, enough);
+        if (refusal(answer) == 0 && r.call == VENDOR_WRITE) hold_vendor_write(&r, out, enough);
+        if (r.call == VENDOR_READ) hold_vendor_read(&r, answer, out, roomy, block);
     }
     size_t room = room_of(r.room_mode, enough);
     free(out);
     out = malloc(room + 1);
-    uint64_t answer = make(&r, out, room);
+    uint64_t answer = make(&r, out, room, block);
     switch (r.call) {
     case VALUE:
     case STRING:
@@ -472,9 +630,13 @@ int LLVMFuzzerTestOneInput(const uint8_t *data, size_t size) {
     case EDIT:
         if (refusal(answer) == 0) hold_edit(&r, out, room, count(answer));
         break;
+    case VENDOR_READ: hold_vendor_read(&r, answer, out, room, block); break;
+    case VENDOR_WRITE:
+        if (refusal(answer) == 0) hold_vendor_write(&r, out, count(answer));
+        break;
     default: break;
     }
-    if (r.call != WRITE) hold_image(&r);
+    if (on_image) hold_image(&r);
     free(out);
     free(first);
     return 0;
