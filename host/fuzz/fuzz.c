@@ -410,29 +410,47 @@ static uint32_t check32(const uint8_t *bytes, size_t len) {
     return ~check;
 }
 
-/* A payload that a read gives: its parts fill it, its check is right, and the block has its offsets. */
-static void hold_payload(const uint8_t *payload, uint64_t len, const uint8_t *block) {
-    HOLDS(len >= 16);
-    uint32_t serial = payload[0];
-    HOLDS(len == 16 + serial);
-    const uint8_t *rest = payload + 1 + serial;
-    HOLDS(rest[0] == 0 && rest[1] == 9 && rest[2] == 0);
+/* What a payload is refused for: its length, then its check, then its block. 0 where it is not. */
+static unsigned payload_refusal(const uint8_t *payload, uint64_t len) {
+    if (len == 0 || len < 3 + (uint64_t)payload[0]) return 18;
+    const uint8_t *rest = payload + 1 + payload[0];
+    unsigned block = (unsigned)rest[0] << 8 | rest[1];
+    if (len != 7 + (uint64_t)payload[0] + block) return 18;
     uint32_t check = check32(payload, len - 4);
-    for (int i = 0; i < 4; i++) HOLDS(payload[len - 4 + i] == (uint8_t)(check >> (24 - 8 * i)));
+    for (int i = 0; i < 4; i++) {
+        if (payload[len - 4 + i] != (uint8_t)(check >> (24 - 8 * i))) return 19;
+    }
+    return block == 9 && rest[2] == 0 ? 0 : 20;
+}
+
+/* A block says where the parts of a payload are, and what its offsets are. */
+static void hold_block(const uint8_t *payload, const uint8_t *block) {
+    uint32_t serial = payload[0];
     HOLDS(word(block, 0) == 1 && word(block, 1) == serial);
     HOLDS(word(block, 2) == 3 + serial && word(block, 3) == 9);
     for (unsigned k = 0; k < 8; k++) {
-        HOLDS((int32_t)word(block, 4 + k) == (int8_t)rest[3 + k]);
+        HOLDS((int32_t)word(block, 4 + k) == (int8_t)payload[4 + serial + k]);
     }
+}
+
+/* A vendor call of another format or edition, or into an output that is too long. */
+static int hold_known(const struct request *r, uint64_t answer, size_t out_len) {
+    int unknown_edition = r->edition < 1 || r->edition > NEWEST;
+    if (r->format != 4 || r->edition < first_edition(4) || unknown_edition) {
+        HOLDS(refusal(answer) == (r->format == 4 && unknown_edition ? 1 : 16));
+        return 0;
+    }
+    if (out_len > LONGEST || (r->call == VENDOR_READ && r->first_len > LONGEST)) {
+        HOLDS(refusal(answer) == 2);
+        return 0;
+    }
+    return 1;
 }
 
 /* A vendor read: after what check refuses, it is about what the matching entries of the list hold. */
 static void hold_vendor_read(const struct request *r, uint64_t answer, const uint8_t *out,
                              size_t out_len, const uint8_t *block) {
-    if (r->format != 4 || r->edition != 3 || r->first_len > LONGEST || out_len > LONGEST) {
-        HOLDS(refusal(answer) == 16 || refusal(answer) == 1 || refusal(answer) == 2);
-        return;
-    }
+    if (!hold_known(r, answer, out_len)) return;
     uint64_t entries;
     uint8_t *records = listed(r->format, r->edition, r->first, r->first_len, &entries);
     if (records == NULL) {
@@ -451,51 +469,64 @@ static void hold_vendor_read(const struct request *r, uint64_t answer, const uin
         len += value_len - PREFIX;
     }
     free(records);
-    unsigned number = refusal(answer);
-    HOLDS(number == 0 || number == 12 || (number >= 17 && number <= 20));
-    HOLDS((number == 17) == !matching);
-    if (number == 12) HOLDS(out_len < len || BLOCKS[r->cut] < BLOCK);
-    if (number == 0 || number == 12) HOLDS(len >= 16);
-    if (number == 0) {
+    unsigned expected = matching ? payload_refusal(joined, len) : 17;
+    if (expected == 0 && (out_len < len || BLOCKS[r->cut] < BLOCK)) expected = 12;
+    HOLDS(refusal(answer) == expected);
+    if (expected == 0) {
         HOLDS(count(answer) == len && same(out, joined, len));
-        hold_payload(out, len, block);
+        hold_block(joined, block);
     }
 }
 
-/* A vendor write that is accepted: the prefix and a piece, one after another. Put into an image they
-   read back. */
-static void hold_vendor_write(const struct request *r, const uint8_t *out, uint64_t len) {
-    uint64_t pieces = r->first_len / 4, at = 0, sum = 0;
-    uint8_t payload[512], block[BLOCK], image[2059], read[512];
-    uint8_t *fields = malloc(pieces * FIELD + 1);
+/* What a vendor write is refused for: the serial's length, a piece's, or their sum. */
+static unsigned pieces_refusal(const struct request *r, size_t out_len) {
+    uint64_t pieces = r->first_len / 4, sum = 0;
     for (uint64_t i = 0; i < pieces; i++) {
         uint32_t piece = word(r->first, (unsigned)i);
-        HOLDS(piece <= 250 && at + PREFIX + piece <= len && same(out + at, prefix, PREFIX));
-        HOLDS(sum + piece <= sizeof payload);
-        if (piece > 0) memcpy(payload + sum, out + at + PREFIX, piece);
+        if (piece > 250) return 18;
+        sum += piece;
+    }
+    if (r->other_len > 255 || sum != 16 + r->other_len) return 18;
+    return pieces * PREFIX + sum > out_len ? 12 : 0;
+}
+
+/* A vendor write: the prefix and a piece, one after another. Put into an image they read back. */
+static void hold_vendor_write(const struct request *r, uint64_t answer, const uint8_t *out,
+                              size_t out_len) {
+    if (!hold_known(r, answer, out_len)) return;
+    HOLDS(refusal(answer) == pieces_refusal(r, out_len));
+    if (refusal(answer) != 0) return;
+    uint64_t pieces = r->first_len / 4, len = 16 + r->other_len, at = 0, joined = 0;
+    uint8_t payload[271], block[BLOCK], image[2059], read[271];
+    uint8_t *fields = malloc(pieces * FIELD + 1);
+    HOLDS(count(answer) == pieces * PREFIX + len);
+    for (uint64_t i = 0; i < pieces; i++) {
+        uint32_t piece = word(r->first, (unsigned)i);
+        HOLDS(same(out + at, prefix, PREFIX));
+        if (piece > 0) memcpy(payload + joined, out + at + PREFIX, piece);
         uint32_t words[5] = {0xFD, 0, 0, (uint32_t)at, PREFIX + piece};
         for (unsigned k = 0; k < FIELD; k++) {
             fields[i * FIELD + k] = (uint8_t)(words[k / 4] >> 8 * (k % 4));
         }
         at += PREFIX + piece;
-        sum += piece;
+        joined += piece;
     }
-    HOLDS(at == len && sum == 16 + r->other_len);
+    HOLDS(payload_refusal(payload, len) == 0);
     HOLDS(payload[0] == r->other_len && same(payload + 1, r->other, r->other_len));
     for (unsigned k = 0; k < 8; k++) {
         HOLDS(payload[4 + r->other_len + k] == (uint8_t)(r->n >> 8 * k));
     }
-    uint64_t made = boardid_write(4, 3, fields, pieces * FIELD, out, len, image, sizeof image);
-    /* More than an image holds. */
-    if (refusal(made) != 0) {
-        HOLDS(refusal(made) == 12 && pieces * (2 + PREFIX) + sum > 2042);
-    } else {
-        uint64_t answer =
-            boardid_vendor_read(4, 3, image, count(made), read, sum, block, sizeof block);
-        HOLDS(answer == sum << 32 && same(read, payload, sum));
-        hold_payload(read, sum, block);
-    }
+    uint64_t made = boardid_write(4, r->edition, fields, pieces * FIELD, out, at, image, 2059);
     free(fields);
+    if (refusal(made) != 0) {
+        /* More than an image holds. */
+        HOLDS(refusal(made) == 12 && at + 2 * pieces > 2042);
+        return;
+    }
+    HOLDS(boardid_vendor_read(4, r->edition, image, count(made), read, len, block, BLOCK) ==
+          len << 32);
+    HOLDS(same(read, payload, len));
+    hold_block(payload, block);
 }
 
 /* How much memory is lent to be written, by the number of a mode and what just suffices. */
@@ -610,8 +641,8 @@ int LLVMFuzzerTestOneInput(const uint8_t *data, size_t size) {
         enough = refusal(answer) == 0 ? count(answer) : 64;
         if (refusal(answer) == 0 && r.call == WRITE) hold_write(&r, out, roomy, enough);
         if (refusal(answer) == 0 && r.call == EDIT) hold_edit(&r, out, roomy, enough);
-        if (refusal(answer) == 0 && r.call == VENDOR_WRITE) hold_vendor_write(&r, out, enough);
         if (r.call == VENDOR_READ) hold_vendor_read(&r, answer, out, roomy, block);
+        if (r.call == VENDOR_WRITE) hold_vendor_write(&r, answer, out, roomy);
     }
     size_t room = room_of(r.room_mode, enough);
     free(out);
@@ -631,9 +662,7 @@ int LLVMFuzzerTestOneInput(const uint8_t *data, size_t size) {
         if (refusal(answer) == 0) hold_edit(&r, out, room, count(answer));
         break;
     case VENDOR_READ: hold_vendor_read(&r, answer, out, room, block); break;
-    case VENDOR_WRITE:
-        if (refusal(answer) == 0) hold_vendor_write(&r, out, count(answer));
-        break;
+    case VENDOR_WRITE: hold_vendor_write(&r, answer, out, room); break;
     default: break;
     }
     if (on_image) hold_image(&r);
