@@ -14,9 +14,12 @@ use std::time::{Duration, Instant};
 use subjects::{Board, Subject};
 
 const RECORD: usize = 64;
+const BLOCK: usize = 48;
 
-/// The name of the call that an image without fields has no row of.
+/// The names of the calls that not every image has a row of.
 const WRITE: &str = "write";
+const VENDOR_READ: &str = "vendor read";
+const VENDOR_WRITE: &str = "vendor write";
 
 /// A call with format and edition on one board, into memory that is lent for it: the answer.
 type Call = fn(u32, u32, &Board, &mut [u8]) -> u64;
@@ -30,7 +33,7 @@ struct Timed {
 }
 
 // The pointers and lengths of the library's calls come from slices, and `out` overlaps none of them.
-const CALLS: [Timed; 5] = [
+const CALLS: [Timed; 7] = [
     Timed {
         name: "check",
         room: |_| 0,
@@ -117,7 +120,70 @@ const CALLS: [Timed; 5] = [
             second::bytes::write(format, edition, &board.fields, &board.values, out)
         },
     },
+    Timed {
+        name: VENDOR_READ,
+        // The buffer for the payload, and the block.
+        room: |board| board.payload + BLOCK,
+        library: |format, edition, board, out| {
+            let (image, length) = (board.image.as_ptr(), board.image.len());
+            let (payload, block) = out.split_at_mut(board.payload);
+            let (payload, payload_length) = (payload.as_mut_ptr(), payload.len());
+            let (block, block_length) = (block.as_mut_ptr(), block.len());
+            unsafe {
+                exports::boardid_vendor_read(
+                    format,
+                    edition,
+                    image,
+                    length,
+                    payload,
+                    payload_length,
+                    block,
+                    block_length,
+                )
+            }
+        },
+        second: |format, edition, board, out| {
+            let (payload, block) = out.split_at_mut(board.payload);
+            second::bytes::vendor_read(format, edition, &board.image, payload, block)
+        },
+    },
+    Timed {
+        name: VENDOR_WRITE,
+        room: |board| board.payload + 5 * (board.pieces.len() / 4),
+        library: |format, edition, board, out| {
+            let (serial, serial_length) = (board.serial.as_ptr(), board.serial.len());
+            let (pieces, pieces_length) = (board.pieces.as_ptr(), board.pieces.len());
+            let (out, room) = (out.as_mut_ptr(), out.len());
+            unsafe {
+                exports::boardid_vendor_write(
+                    format,
+                    edition,
+                    serial,
+                    serial_length,
+                    board.offsets,
+                    pieces,
+                    pieces_length,
+                    out,
+                    room,
+                )
+            }
+        },
+        second: |format, edition, board, out| {
+            let (serial, offsets, pieces) = (&board.serial, board.offsets, &board.pieces);
+            second::bytes::vendor_write(format, edition, serial, offsets, pieces, out)
+        },
+    },
 ];
+
+/// Whether a subject has a row of a call. Amplifiers have those of the vendor calls and no others.
+fn has_row(subject: &Subject, timed: &Timed) -> bool {
+    match timed.name {
+        VENDOR_READ => subject.is_amplifier(),
+        VENDOR_WRITE => subject.is_amplifier() && subject.has_pieces(),
+        WRITE => !subject.is_amplifier() && subject.is_written(),
+        _ => !subject.is_amplifier(),
+    }
+}
 
 fn main() -> ExitCode {
     let words: Vec<String> = std::env::args().skip(1).collect();
@@ -134,10 +200,7 @@ fn main() -> ExitCode {
     println!("| image | entries | call | library | second | library/second |");
     println!("|---|---:|---|---:|---:|---:|");
     for subject in subjects::all() {
-        let calls = CALLS
-            .iter()
-            .filter(|timed| timed.name != WRITE || subject.is_written());
-        for timed in calls {
+        for timed in CALLS.iter().filter(|timed| has_row(&subject, timed)) {
             let Some((library, second)) = row(&subject, timed, Duration::from_secs_f64(seconds))
             else {
                 println!(

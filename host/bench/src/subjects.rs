@@ -6,6 +6,7 @@ use images::generate::{kept, named};
 use images::image::{Entry, Format, Image, LONGEST, ONIE_LONGEST};
 use images::onie::EXTENSION;
 use images::random::Random;
+use images::vendor::{self, Writing, PREFIX};
 use images::vpd::{self, Rule};
 
 /// One image with what the calls on it take.
@@ -18,6 +19,12 @@ pub struct Board {
     /// The fields of a write and their values. There are none where the image can't be written.
     pub fields: Vec<u8>,
     pub values: Vec<u8>,
+    /// The length of an amplifier's payload. It is 0 where the image is no amplifier's.
+    pub payload: usize,
+    /// What a vendor write is given. There are no pieces where none is timed.
+    pub serial: Vec<u8>,
+    pub offsets: u64,
+    pub pieces: Vec<u8>,
 }
 
 /// One or more images of a format. One round of a call is that call on each of them.
@@ -44,6 +51,16 @@ impl Subject {
     /// Whether there is a write to be timed.
     pub fn is_written(&self) -> bool {
         self.boards.iter().all(|board| !board.fields.is_empty())
+    }
+
+    /// Whether the images are an amplifier's, on which the vendor calls are timed.
+    pub fn is_amplifier(&self) -> bool {
+        self.boards.iter().all(|board| board.payload > 0)
+    }
+
+    /// Whether there is a vendor write to be timed.
+    pub fn has_pieces(&self) -> bool {
+        self.boards.iter().all(|board| !board.pieces.is_empty())
     }
 }
 
@@ -87,6 +104,12 @@ pub fn all() -> Vec<Subject> {
         ),
         subject("ONIE, 300 bytes", Format::Onie, vec![switch()]),
         subject("ONIE, 2,059 bytes", Format::Onie, vec![full_onie()]),
+        subject("amplifier, 178 bytes", Format::Onie, vec![amplifier()]),
+        subject(
+            "amplifier, 2,059 bytes",
+            Format::Onie,
+            vec![full_amplifier()],
+        ),
     ]
 }
 
@@ -108,6 +131,10 @@ fn board(format: Format, entries: Vec<Entry>, length: usize, value: Vec<u8>) -> 
         value,
         fields: list.bytes(),
         values: list.values,
+        payload: 0,
+        serial: Vec::new(),
+        offsets: 0,
+        pieces: Vec::new(),
     }
 }
 
@@ -279,5 +306,55 @@ fn full_onie() -> Board {
         fields: list.bytes(),
         values: list.values,
         ..board(Format::Onie, entries, ONIE_LONGEST, Vec::new())
+    }
+}
+
+/// The ONIE image of a dual-band amplifier with 003's serial, its payload in two pieces among the nine
+/// other entries that 003 names, and a vendor write of the same.
+fn amplifier() -> Board {
+    let offsets = [24, -2, 0, 0, -128, 127, 5, -5];
+    let payload = vendor::payload(b"DQ000MPW", &vendor::block(offsets));
+    let lengths = [12, 12];
+    let values: [(u8, &[u8]); 9] = [
+        (0x21, b"Czechlight BiDi Amplifier"),
+        (0x22, b"sdn-bidi-cplusl-1572-g2"),
+        (0x23, b"0123456789"),
+        (0x24, b"\x00\x11\x22\xAA\xBB\xCC"),
+        (0x25, b"06/15/2023 12:34:56"),
+        (0x2A, b"\x00\x03"),
+        (0x2B, b"Manufacturer"),
+        (0x2C, b"CZ"),
+        (0x2D, b"CESNET"),
+    ];
+    let entries = values
+        .into_iter()
+        .map(|(code, value)| Entry::new(code, value.to_vec()))
+        .chain(vendor::extensions(&payload, &lengths))
+        .collect();
+    let pieces = lengths.map(|length| length as u32).to_vec();
+    let writing = Writing::new(b"DQ000MPW".to_vec(), offsets, pieces);
+    Board {
+        payload: payload.len(),
+        pieces: writing.piece_bytes(),
+        serial: writing.serial,
+        offsets: writing.offsets,
+        ..board(Format::Onie, entries, 0, Vec::new())
+    }
+}
+
+/// An ONIE image of the longest size that is full of an amplifier's vendor extensions: the payload with
+/// the longest serial in 240 pieces of one and two bytes, with 15 others between them.
+fn full_amplifier() -> Board {
+    let payload = vendor::payload(&[b'S'; 255], &vendor::block([-1; 8]));
+    let lengths: Vec<usize> = (0..240).map(|n| if n < 31 { 2 } else { 1 }).collect();
+    let mut entries = vendor::extensions(&payload, &lengths);
+    let foreign = Entry::new(EXTENSION, PREFIX[..4].to_vec());
+    for n in 1..15 {
+        entries.insert(n * 17, foreign.clone());
+    }
+    entries.push(Entry::new(EXTENSION, b"\x00\x00\x1F\x79\x01".to_vec()));
+    Board {
+        payload: payload.len(),
+        ..board(Format::Onie, entries, 0, Vec::new())
     }
 }
