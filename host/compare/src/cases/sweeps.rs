@@ -98,7 +98,8 @@ pub fn every_length(compare: &mut Comparison) {
     }
 }
 
-/// Every byte of a small image with each of its 256 values, the check as it was and made right.
+/// Every byte of a small image with each of its 256 values, the check as it was and made right, and of
+/// ONIE the vendor block that is then left.
 fn every_byte(compare: &mut Comparison, format: Format, image: &[u8]) {
     for place in 0..image.len() {
         for value in 0..=255 {
@@ -112,6 +113,9 @@ fn every_byte(compare: &mut Comparison, format: Format, image: &[u8]) {
             for &edition in format.editions() {
                 let check = Call::check(format.number(), edition, &changed);
                 compare.call(&check.list(30 * RECORD));
+                if format == Format::Onie {
+                    compare.call(&check.vendor_read(24, BLOCK));
+                }
             }
         }
     }

@@ -91,7 +91,7 @@ fn read(image: &[u8]) -> Result<(Vec<u8>, Vec<i32>), Refusal> {
     read_into(ONIE, 3, image, [3_000, 48])
 }
 
-/// What a read gives of a payload with a serial of this length and these offsets.
+/// What a read gives of a payload with these offsets.
 fn gives(payload: &[u8], offsets: [i8; 8]) -> Result<(Vec<u8>, Vec<i32>), Refusal> {
     let serial = i32::from(payload[0]);
     let mut words = vec![1, serial, 3 + serial, 9];
