@@ -18,7 +18,7 @@
  * entry is one whose code has a name in this edition; every other entry has kind 0, is read as
  * plain bytes and is kept as it is by every edit. Numbers that end in h are hexadecimal.
  *
- * docs/C-INTERFACE.md has the same calls with every layout to the byte and two worked examples.
+ * docs/C-INTERFACE.md has the same calls with every layout to the byte and three worked examples.
  */
 #ifdef BOARDID_H
 #if BOARDID_EDITION != 3
@@ -172,13 +172,26 @@ enum {
     BOARDID_REFUSED_CHECK = 10,     /* the check is wrong; at the first byte of the stored one */
     BOARDID_REFUSED_MISSING = 11,   /* a required field is missing; at 0 */
     BOARDID_REFUSED_NO_ROOM = 12,   /* more entries than records lent, an output too small, a Tiny
-                                       image above 255 bytes, or an ONIE image above 2,059; at 0 */
+                                       image above 255 bytes, an ONIE image above 2,059, or fewer
+                                       than 48 bytes lent for a vendor block; at 0 */
     BOARDID_REFUSED_NOT_THERE = 13, /* no entry of that number; at 0. In a write: a field's key or
                                        value is not inside the lent values */
     BOARDID_REFUSED_NOT_NAMED = 14, /* a code without a name in this edition is neither written nor
                                        edited; in an edit at the entry's first byte */
     BOARDID_REFUSED_NO_STRING = 15, /* no pool, or no string of that number; at 0 */
-    BOARDID_REFUSED_FORMAT = 16     /* the format is not 1 to 4, or not 3 for a string; at 0 */
+    BOARDID_REFUSED_FORMAT = 16     /* the format is not 1 to 4, not 3 for a string, or not 4 for a
+                                       vendor payload; at 0 */
+};
+
+/* Of the calls on vendor payloads alone, from edition 3 on; all at 0. */
+enum {
+    BOARDID_REFUSED_NO_PAYLOAD = 17,     /* no FDh entry's value begins with 00 00 1F 79 00 */
+    BOARDID_REFUSED_PAYLOAD_LENGTH = 18, /* the payload is not exactly as long as its parts. In
+                                            writing: a serial above 255 bytes, a piece above 250, no
+                                            pieces, or pieces that do not sum to the payload */
+    BOARDID_REFUSED_PAYLOAD_CHECK = 19,  /* the payload's own check is wrong */
+    BOARDID_REFUSED_BLOCK = 20           /* the block's version is not 00, or the block does not
+                                            have nine bytes */
 };
 
 /*
@@ -266,7 +279,15 @@ static inline const char *boardid_refusal_text(uint32_t number)
     case BOARDID_REFUSED_NO_STRING:
         return "there is no string pool, or no string of that number";
     case BOARDID_REFUSED_FORMAT:
-        return "the format is not known, or has no strings";
+        return "the format is not known, or is none that this call is for";
+    case BOARDID_REFUSED_NO_PAYLOAD:
+        return "no entry has a piece of a vendor payload";
+    case BOARDID_REFUSED_PAYLOAD_LENGTH:
+        return "the lengths of the vendor payload and of its parts or pieces do not fit";
+    case BOARDID_REFUSED_PAYLOAD_CHECK:
+        return "the check of the vendor payload is wrong";
+    case BOARDID_REFUSED_BLOCK:
+        return "the vendor block has another version, or another length than nine bytes";
     default:
         return "no refusal has this number";
     }
@@ -511,6 +532,105 @@ static inline uint64_t boardid_walk_entry(const uint8_t *walk)
     return high << 32 | boardid_word_at(walk, 2);
 }
 
+/* ---- Vendor payloads ---------------------------------------------------------------------- */
+
+/*
+ * From edition 3 on. An optics lab's amplifiers keep a payload in the FDh entries of an ONIE image.
+ * It is cut into pieces, and each entry whose value begins with the prefix 00 00 1F 79 00 has one:
+ * what follows the prefix, in image order. Joined, they are
+ *   - the serial's length in one byte, and the serial, which may be any bytes;
+ *   - the block's length in two bytes, high byte first, and the block;
+ *   - the check, in four bytes, high byte first: ONIE's CRC-32 over all before it.
+ * The block of a dual-band amplifier has nine bytes: version 00, and eight offsets, each a signed
+ * byte in tenths of a decibel, so that 18h is 24, which is 2.4 dB, and FEh is -2.
+ */
+enum {
+    BOARDID_VENDOR_PREFIX_LENGTH = 5, /* the bytes of the prefix */
+    BOARDID_VENDOR_PIECE_MAX = 250,   /* the most bytes of a piece, without its prefix */
+    BOARDID_VENDOR_SERIAL_MAX = 255,  /* the most bytes of a serial */
+    BOARDID_VENDOR_PAYLOAD_MIN = 16,  /* the bytes of a payload besides those of its serial */
+    BOARDID_VENDOR_PAYLOAD_MAX = 271, /* the most bytes of a payload that is read or written */
+    BOARDID_VENDOR_OFFSETS = 8,       /* how many offsets a block has */
+    BOARDID_VENDOR_PIECE_SIZE = 4,    /* the bytes of a piece's length in lent pieces, one word */
+    BOARDID_VENDOR_BLOCK_SIZE = 48    /* the bytes that are lent for what a payload says */
+};
+
+/* The offsets, by their number in the block. */
+enum {
+    BOARDID_VENDOR_C_BAND_WEST_IN = 0,
+    BOARDID_VENDOR_C_BAND_WEST_OUT = 1,
+    BOARDID_VENDOR_C_BAND_EAST_IN = 2,
+    BOARDID_VENDOR_C_BAND_EAST_OUT = 3,
+    BOARDID_VENDOR_L_BAND_WEST_IN = 4,
+    BOARDID_VENDOR_L_BAND_WEST_OUT = 5,
+    BOARDID_VENDOR_L_BAND_EAST_IN = 6,
+    BOARDID_VENDOR_L_BAND_EAST_OUT = 7
+};
+
+/*
+ * What a payload says: twelve words in the order in which they lie in lent bytes. The places count
+ * bytes of the payload, from 0. On a machine whose words have the low byte first, one of these may
+ * be lent as the bytes of a block.
+ */
+struct boardid_vendor_block {
+    uint32_t serial_place;
+    uint32_t serial_length;
+    uint32_t block_place;
+    uint32_t block_length;                   /* 9 */
+    int32_t offsets[BOARDID_VENDOR_OFFSETS]; /* -128 to 127, in tenths of a decibel */
+};
+
+/* Compiles only where the struct has the 48 bytes that are lent for it. */
+typedef char boardid_vendor_block_has_48_bytes[sizeof(struct boardid_vendor_block) == 48 ? 1 : -1];
+
+/* Word w of lent bytes as a signed number, in two's complement. */
+static inline int32_t boardid_signed_word_at(const uint8_t *bytes, size_t w)
+{
+    uint32_t word = boardid_word_at(bytes, w);
+
+    return word <= 0x7FFFFFFF ? (int32_t)word : -1 - (int32_t)(0xFFFFFFFF - word);
+}
+
+/* The block in lent bytes that boardid_vendor_read_payload has filled. */
+static inline struct boardid_vendor_block boardid_vendor_block_at(const uint8_t *bytes)
+{
+    struct boardid_vendor_block block;
+    size_t k;
+
+    block.serial_place = boardid_word_at(bytes, 0);
+    block.serial_length = boardid_word_at(bytes, 1);
+    block.block_place = boardid_word_at(bytes, 2);
+    block.block_length = boardid_word_at(bytes, 3);
+    for (k = 0; k < BOARDID_VENDOR_OFFSETS; k++) {
+        block.offsets[k] = boardid_signed_word_at(bytes, 4 + k);
+    }
+    return block;
+}
+
+/* The length of piece k in lent bytes that hold lengths one after another, counted from 0. */
+static inline uint32_t boardid_vendor_piece_at(const uint8_t *pieces, size_t k)
+{
+    return boardid_word_at(pieces, k);
+}
+
+/* Sets the length of piece k in lent bytes. It counts no byte of the prefix, and may be 0. */
+static inline void boardid_vendor_piece_set(uint8_t *pieces, size_t k, uint32_t length)
+{
+    boardid_word_set(pieces, k, length);
+}
+
+/* Eight offsets as the library takes them: offset k in bits 8k to 8k + 7 of one number. */
+static inline uint64_t boardid_vendor_offsets_word(const int8_t offsets[8])
+{
+    uint64_t word = 0;
+    size_t k;
+
+    for (k = BOARDID_VENDOR_OFFSETS; k > 0; k--) {
+        word = word << 8 | (uint8_t)offsets[k - 1];
+    }
+    return word;
+}
+
 /* ---- What the library exports ------------------------------------------------------------- */
 
 /* These take the edition as a number. The calls below pass this header's: use those. */
@@ -532,6 +652,14 @@ uint64_t boardid_write(uint32_t format, uint32_t edition, const uint8_t *fields,
 uint64_t boardid_edit(uint32_t format, uint32_t edition, const uint8_t *image, size_t image_length,
                       uint64_t n, const uint8_t *value, size_t value_length, uint8_t *out,
                       size_t out_length);
+
+/* From edition 3 on. The format is 4, ONIE; any other is refused with 16, whatever the edition. */
+uint64_t boardid_vendor_read(uint32_t format, uint32_t edition, const uint8_t *image,
+                             size_t image_length, uint8_t *payload, size_t payload_length,
+                             uint8_t *block, size_t block_length);
+uint64_t boardid_vendor_write(uint32_t format, uint32_t edition, const uint8_t *serial,
+                              size_t serial_length, uint64_t offsets, const uint8_t *pieces,
+                              size_t pieces_length, uint8_t *out, size_t out_length);
 
 /* ---- The calls ---------------------------------------------------------------------------- */
 
@@ -648,6 +776,50 @@ static inline uint64_t boardid_edit_entry(uint32_t format, const uint8_t *image,
 {
     return boardid_edit(format, BOARDID_EDITION, image, image_length, n, value, value_length, out,
                         out_length);
+}
+
+/*
+ * Reads the vendor payload of an ONIE image, from edition 3 on: joins its pieces into the front of
+ * payload, and puts what it says into block, for boardid_vendor_block_at. No payload that is read
+ * has more than 271 bytes.
+ *
+ * Gives the length of the payload. Bytes of payload after it, and bytes of block after the 48, stay
+ * as they were.
+ * Refused: as boardid_check_image, with 2 for payload too; then, all at 0: 17 where no entry has a
+ * piece, 18 where the payload is not exactly as long as its parts (also where it ends before a
+ * length), 19 where its check is wrong, 20 where the block's version is not 00 or the block does
+ * not have nine bytes; then 12 where the payload does not fit in payload, or fewer than 48 bytes of
+ * block are lent.
+ */
+static inline uint64_t boardid_vendor_read_payload(const uint8_t *image, size_t image_length,
+                                                   uint8_t *payload, size_t payload_length,
+                                                   uint8_t *block, size_t block_length)
+{
+    return boardid_vendor_read(BOARDID_FORMAT_ONIE, BOARDID_EDITION, image, image_length, payload,
+                               payload_length, block, block_length);
+}
+
+/*
+ * Writes a vendor payload, from edition 3 on: puts the values of its FDh entries into out, one
+ * after another, each the prefix and a piece, without the entry's code and length. An image is then
+ * written or edited with them. It takes the serial, the eight offsets and the lengths of the
+ * pieces. The pieces lent are pieces_length / 4; a length may be 0, and together they are 16 and
+ * the serial's length.
+ *
+ * Gives the bytes put out: 5 for each piece, 16, and the serial's length. Bytes of out after them
+ * stay as they were.
+ * Refused, all at 0: 1, 2 for out; then 18 where the serial has more than 255 bytes, a piece more
+ * than 250, there are no pieces, or they do not sum to the payload; then 12 where the values do not
+ * fit in out.
+ */
+static inline uint64_t boardid_vendor_write_payload(const uint8_t *serial, size_t serial_length,
+                                                    const int8_t offsets[8],
+                                                    const uint8_t *pieces, size_t pieces_length,
+                                                    uint8_t *out, size_t out_length)
+{
+    return boardid_vendor_write(BOARDID_FORMAT_ONIE, BOARDID_EDITION, serial, serial_length,
+                                boardid_vendor_offsets_word(offsets), pieces, pieces_length, out,
+                                out_length);
 }
 
 #ifdef __cplusplus
