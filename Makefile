@@ -21,7 +21,7 @@ CFLAGS ?= -O2 -g
 WARNINGS := -Wall -Wextra -Wpedantic
 OUT := target/c
 
-all: $(OUT)/list $(OUT)/edit
+all: $(OUT)/list $(OUT)/edit $(OUT)/vendor
 
 ifeq ($(origin LIB), undefined)
 LIB := target/staticlib/libboardid.a

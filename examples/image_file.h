@@ -1,6 +1,7 @@
 /*
- * What both examples do with an image file: find the format that the user names, read the file, and
- * report a refusal. Each example includes this file once.
+ * What the examples do with an image file: find the format that the user names, read the file, print
+ * bytes of it safely, and report a refusal. Each example includes this file once, and uses what it
+ * needs.
  */
 #ifndef IMAGE_FILE_H
 #define IMAGE_FILE_H
@@ -34,7 +35,7 @@ struct image_file {
 #endif
 
 /* The number of the format that the user names; 0 of any other word. */
-static uint32_t format_of_word(const char *word)
+static inline uint32_t format_of_word(const char *word)
 {
     if (strcmp(word, "fboss") == 0) {
         return BOARDID_FORMAT_FBOSS;
@@ -57,7 +58,7 @@ static uint32_t format_of_word(const char *word)
  * Reads a file, of a longer one the first 65,537 bytes: the library refuses these as too long, so
  * no more are needed. Returns 0, or -1 with errno set.
  */
-static int read_image_file(const char *path, struct image_file *file)
+static inline int read_image_file(const char *path, struct image_file *file)
 {
     const size_t room = (size_t)BOARDID_IMAGE_MAX + 1;
     FILE *stream = fopen(path, "rb");
@@ -84,8 +85,30 @@ static int read_image_file(const char *path, struct image_file *file)
     return 0;
 }
 
+/* Prints one byte of what stands in quotes, or \x and two digits for it. */
+static inline void print_character(unsigned character)
+{
+    if (character < 0x20 || character > 0x7E || character == '"' || character == '\\') {
+        printf("\\x%02X", character);
+    } else {
+        printf("%c", (int)character);
+    }
+}
+
+/* Prints bytes, as a text, a key or a serial number, in quotes. */
+static inline void print_text(const uint8_t *bytes, size_t length)
+{
+    size_t i;
+
+    printf("\"");
+    for (i = 0; i < length; i++) {
+        print_character(bytes[i]);
+    }
+    printf("\"");
+}
+
 /* Reports a refusal on standard error: its number, its place and its text. */
-static void report_refusal(const char *program, const char *path, uint64_t answer)
+static inline void report_refusal(const char *program, const char *path, uint64_t answer)
 {
     uint32_t number = boardid_answer_number(answer);
 

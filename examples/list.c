@@ -129,28 +129,6 @@ static int is_text(const uint8_t *bytes, size_t length)
     return 1;
 }
 
-/* Prints one byte of what stands in quotes, or \x and two digits for it. */
-static void print_character(unsigned character)
-{
-    if (character < 0x20 || character > 0x7E || character == '"' || character == '\\') {
-        printf("\\x%02X", character);
-    } else {
-        printf("%c", (int)character);
-    }
-}
-
-/* Prints bytes, a text or a key, in quotes. */
-static void print_text(const uint8_t *bytes, size_t length)
-{
-    size_t i;
-
-    printf("\"");
-    for (i = 0; i < length; i++) {
-        print_character(bytes[i]);
-    }
-    printf("\"");
-}
-
 /* Prints bytes in hexadecimal. */
 static void print_hex(const uint8_t *bytes, size_t length)
 {

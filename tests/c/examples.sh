@@ -1,6 +1,6 @@
 #!/usr/bin/env bash
 # Runs the examples on copies of the samples and prints each command with what it writes and its exit status; run.sh compares that with examples.out.
-# Usage: examples.sh FOLDER, which has the programs list and edit, and list-N and edit-N compiled with the headers of editions 1 and 2.
+# Usage: examples.sh FOLDER, which has the programs list, edit and vendor, and list-N and edit-N compiled with the headers of editions 1 and 2.
 set -uo pipefail
 programs=$(cd "$1" && pwd)
 samples=$(cd "$(dirname "$0")/../../samples" && pwd)
@@ -28,6 +28,7 @@ run list vpd board.vpd
 run list vpd names.vpd
 run list tiny tiny.bin
 run list onie onie.bin
+run list onie amplifier.bin
 run list-1 fboss fboss.bin
 run list-1 vpd board.vpd
 run list-1 vpd names.vpd
@@ -167,3 +168,41 @@ run list vpd board.vpd
 run edit-1 tiny tiny.bin 0 X
 run edit-1 -x tiny tiny.bin 0 02
 run list tiny tiny.bin
+
+echo '# vendor'
+cp "$samples/onie.bin" example.bin
+run vendor example.bin
+run vendor amplifier.bin
+run edit onie amplifier.bin 2 LAB-000473
+run edit onie amplifier.bin 4 '12/31/2024 23:59:59'
+run edit onie amplifier.bin 10 spare
+run vendor amplifier.bin
+run edit -x onie amplifier.bin 9 '00 00 1F 79 00 00 00 09 00 80 FF 00 18'
+run edit -x onie amplifier.bin 11 '00 00 1F 79 00 7F FE 01 81 19 FF 92 EB'
+run vendor amplifier.bin
+printf 'TlvInfo\x00\x01\x00\x22\xFD\x1A\x00\x00\x1F\x79\x00\x05\x1B[2J"\x00\x09\x00\x01\x02\x03\x04\x05\x06\x07\x08' >odd_serial.onie
+printf '\x4E\x4D\x04\x4B\xFE\x04\x7F\x35\x18\x46' >>odd_serial.onie
+run vendor odd_serial.onie
+
+echo '# vendor: refusals and failures'
+run vendor empty.onie
+run vendor odd.onie
+printf 'TlvInfo\x00\x01\x00\x0D\xFD\x05\x00\x00\x1F\x79\x00\xFE\x04\x7F\x3E\xE3\xA3' >no_parts.onie
+run vendor no_parts.onie
+run edit -x onie amplifier.bin 11 '00 00 1F 79 00 7F FE 01 81 19 FF 92 EC'
+run list onie amplifier.bin
+run vendor amplifier.bin
+printf 'TlvInfo\x00\x01\x00\x1D\xFD\x15\x00\x00\x1F\x79\x00\x00\x00\x09\x01\x00\x00\x00\x00\x00\x00\x00\x00' >version.onie
+printf '\x90\xBB\xF9\xE6\xFE\x04\x73\x01\x6A\x25' >>version.onie
+run vendor version.onie
+run vendor twice.onie
+run vendor check.onie
+run vendor tiny.bin
+run vendor long.vpd
+run vendor missing.onie
+run vendor .
+run vendor
+run vendor onie amplifier.bin
+echo '$ vendor odd_serial.onie >/dev/full'
+{ "$programs/vendor" odd_serial.onie >/dev/full; } 2>&1
+echo "exit status $?"

@@ -92,11 +92,13 @@ three_headers() {
         "$folder/three_headers"
 }
 
-# The examples, with the newest header and with those of editions 1 and 2, against their stored output.
+# The examples, with the newest header and, but for vendor, with those of editions 1 and 2, against their stored output.
 examples() {
     local folder=$1 name
-    for name in list edit; do
+    for name in list edit vendor; do
         "$cc" -std=c99 "${warnings[@]}" "${flags[@]}" -Iinclude -o "$folder/$name" "examples/$name.c" "$lib" "${more[@]}" || return 1
+    done
+    for name in list edit; do
         program "$folder/$name-1" 1 "examples/$name.c" || return 1
         program "$folder/$name-2" 2 "examples/$name.c" || return 1
     done
