@@ -1,15 +1,13 @@
 /*
- * Every call through a header's functions, on the cases of the scope document and of
- * docs/DECISIONS.md (their numbers, as D13, stand beside them). Compiled once with each edition's
- * header. All lent memory ends at a page that may not be touched.
+ * Every call that all editions have, through a header's functions, on the cases of the scope
+ * document and of docs/DECISIONS.md (their numbers, as D13, stand beside them). Compiled once with
+ * each edition's header. All lent memory ends at a page that may not be touched.
  *
  * Format 4, ONIE, is a number here: the headers of editions 1 and 2 have no name for it.
  */
 #define _DEFAULT_SOURCE
 
-#include <boardid.h>
-
-#include "expect.h"
+#include "answers.h"
 
 /* The key "lab.rack", which is read and is not written. */
 #define LAB_RACK "6C 61 62 2E 72 61 63 6B"
@@ -27,13 +25,6 @@
 #define ONIE_FOUR \
     ONIE "00 19 21 01 41 26 01 01 FD 04 00 00 1F 79 FD 05 00 00 1F 79 00 FE 04 0F 05 E4 95"
 
-/* What a call answers: a refusal's number and place, or 0, 0 and a count. */
-struct outcome {
-    uint32_t number;
-    uint64_t place;
-    uint32_t count;
-};
-
 /*
  * What this edition answers to a case: the first of the two answers before the edition that brought
  * something new to the format, and the second from it on. To formats 1 to 3 that is edition 2, with
@@ -42,32 +33,6 @@ struct outcome {
 static struct outcome outcome_of(uint32_t format, const struct outcome by_edition[2])
 {
     return by_edition[BOARDID_EDITION >= (format == 4 ? 3 : 2)];
-}
-
-/* Expects an answer, every bit of it. */
-static void expect_answer(uint64_t answer, struct outcome outcome, const char *what)
-{
-    uint64_t wanted = outcome.number != 0 ? (uint64_t)outcome.number << 59 | outcome.place
-                                          : (uint64_t)outcome.count << 32;
-
-    expect_number(answer, wanted, what);
-    expect_number(boardid_answer_number(answer), outcome.number, what);
-    expect_number(boardid_answer_place(answer), outcome.number != 0 ? outcome.place : 0, what);
-    expect_number(boardid_answer_count(answer), outcome.count, what);
-}
-
-static void expect_refused(uint64_t answer, uint32_t number, uint64_t place, const char *what)
-{
-    struct outcome outcome = {number, place, 0};
-
-    expect_answer(answer, outcome, what);
-}
-
-static void expect_count(uint64_t answer, uint32_t count, const char *what)
-{
-    struct outcome outcome = {0, 0, count};
-
-    expect_answer(answer, outcome, what);
 }
 
 /* ---- Images --------------------------------------------------------------------------------- */

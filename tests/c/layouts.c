@@ -81,6 +81,22 @@ static void constants(void)
                   "kind of ONIE 21h");
     expect_number(BOARDID_KIND(BOARDID_FORMAT_ONIE, BOARDID_ONIE_VENDOR_EXTENSION), 1277,
                   "kind of ONIE FDh");
+    expect_number(BOARDID_VENDOR_PREFIX_LENGTH, 5, "vendor prefix");
+    expect_number(BOARDID_VENDOR_PIECE_MAX, 250, "longest vendor piece");
+    expect_number(BOARDID_VENDOR_SERIAL_MAX, 255, "longest vendor serial");
+    expect_number(BOARDID_VENDOR_PAYLOAD_MIN, 16, "vendor payload without a serial");
+    expect_number(BOARDID_VENDOR_PAYLOAD_MAX, 271, "longest vendor payload");
+    expect_number(BOARDID_VENDOR_OFFSETS, 8, "vendor offsets");
+    expect_number(BOARDID_VENDOR_PIECE_SIZE, 4, "length of a vendor piece");
+    expect_number(BOARDID_VENDOR_BLOCK_SIZE, 48, "vendor block");
+    expect_number(BOARDID_VENDOR_C_BAND_WEST_IN, 0, "offset 0");
+    expect_number(BOARDID_VENDOR_C_BAND_WEST_OUT, 1, "offset 1");
+    expect_number(BOARDID_VENDOR_C_BAND_EAST_IN, 2, "offset 2");
+    expect_number(BOARDID_VENDOR_C_BAND_EAST_OUT, 3, "offset 3");
+    expect_number(BOARDID_VENDOR_L_BAND_WEST_IN, 4, "offset 4");
+    expect_number(BOARDID_VENDOR_L_BAND_WEST_OUT, 5, "offset 5");
+    expect_number(BOARDID_VENDOR_L_BAND_EAST_IN, 6, "offset 6");
+    expect_number(BOARDID_VENDOR_L_BAND_EAST_OUT, 7, "offset 7");
 #endif
 
     expect_number(BOARDID_KIND(BOARDID_FORMAT_VPD, BOARDID_VPD_STRING), 513, "kind of VPD 01h");
@@ -103,6 +119,7 @@ static void constants(void)
 
 static void refusals(void)
 {
+    const uint32_t last = BOARDID_EDITION >= 3 ? 20 : 16;
     uint32_t a, b;
 
     expect_number(BOARDID_NOT_REFUSED, 0, "refusal 0");
@@ -122,15 +139,23 @@ static void refusals(void)
     expect_number(BOARDID_REFUSED_NOT_NAMED, 14, "refusal 14");
     expect_number(BOARDID_REFUSED_NO_STRING, 15, "refusal 15");
     expect_number(BOARDID_REFUSED_FORMAT, 16, "refusal 16");
-    for (a = 0; a <= 17; a++) {
+#if BOARDID_EDITION >= 3
+    expect_number(BOARDID_REFUSED_NO_PAYLOAD, 17, "refusal 17");
+    expect_number(BOARDID_REFUSED_PAYLOAD_LENGTH, 18, "refusal 18");
+    expect_number(BOARDID_REFUSED_PAYLOAD_CHECK, 19, "refusal 19");
+    expect_number(BOARDID_REFUSED_BLOCK, 20, "refusal 20");
+#endif
+    for (a = 0; a <= last + 1; a++) {
         expect(boardid_refusal_text(a)[0] != '\0', "a text for each refusal");
         for (b = 0; b < a; b++) {
             expect(strcmp(boardid_refusal_text(a), boardid_refusal_text(b)) != 0,
                    "a text of its own for each refusal");
         }
     }
-    expect(strcmp(boardid_refusal_text(17), boardid_refusal_text(0xFFFFFFFF)) == 0,
-           "one text for every number that is no refusal");
+    for (a = last + 1; a <= 32; a++) {
+        expect(strcmp(boardid_refusal_text(a), boardid_refusal_text(0xFFFFFFFF)) == 0,
+               "one text for every number that is no refusal");
+    }
 }
 
 static void answers(void)
@@ -304,6 +329,68 @@ static void walks(void)
     give_back(walk);
 }
 
+#if BOARDID_EDITION >= 3
+static void vendor_blocks(void)
+{
+    static const uint8_t offsets[] = {
+        0x18, 0x00, 0x00, 0x00, 0xFE, 0xFF, 0xFF, 0xFF, 0x00, 0x00, 0x00, 0x00, 0x7F, 0x00, 0x00,
+        0x00, 0x80, 0xFF, 0xFF, 0xFF, 0xFF, 0xFF, 0xFF, 0x7F, 0x00, 0x00, 0x00, 0x80, 0xFF, 0xFF,
+        0xFF, 0xFF};
+    static const int32_t numbers[] = {24, -2, 0, 127, -128, INT32_MAX, INT32_MIN, -1};
+    struct lent bytes = lend(BOARDID_VENDOR_BLOCK_SIZE);
+    struct boardid_vendor_block block;
+    uint32_t k;
+
+    expect_number(sizeof(struct boardid_vendor_block), 48, "size of the block's struct");
+    expect_number(offsetof(struct boardid_vendor_block, serial_place), 0, "word 0");
+    expect_number(offsetof(struct boardid_vendor_block, serial_length), 4, "word 1");
+    expect_number(offsetof(struct boardid_vendor_block, block_place), 8, "word 2");
+    expect_number(offsetof(struct boardid_vendor_block, block_length), 12, "word 3");
+    expect_number(offsetof(struct boardid_vendor_block, offsets), 16, "words 4 to 11");
+
+    fill_words(bytes.bytes, 4);
+    memcpy(bytes.bytes + 16, offsets, sizeof offsets);
+    block = boardid_vendor_block_at(bytes.bytes);
+    expect_number(block.serial_place, filled_word(0), "serial place");
+    expect_number(block.serial_length, filled_word(1), "serial length");
+    expect_number(block.block_place, filled_word(2), "block place");
+    expect_number(block.block_length, filled_word(3), "block length");
+    for (k = 0; k < 8; k++) {
+        expect(block.offsets[k] == numbers[k], "offset");
+        expect(boardid_signed_word_at(bytes.bytes, 4 + k) == numbers[k], "signed word");
+    }
+    give_back(bytes);
+}
+
+static void vendor_pieces(void)
+{
+    static const uint8_t as_bytes[] = {0x17, 0, 0, 0, 0x98, 0xBA, 0xDC, 0xFE, 0x5A, 0x5A, 0x5A};
+    struct lent pieces = lend(sizeof as_bytes);
+
+    boardid_vendor_piece_set(pieces.bytes, 0, 23);
+    boardid_vendor_piece_set(pieces.bytes, 1, 0xFEDCBA98);
+    expect(memcmp(pieces.bytes, as_bytes, sizeof as_bytes) == 0, "lengths of pieces");
+    expect_number(boardid_vendor_piece_at(pieces.bytes, 0), 23, "length of piece 0");
+    expect_number(boardid_vendor_piece_at(pieces.bytes, 1), 0xFEDCBA98, "length of piece 1");
+    give_back(pieces);
+}
+
+static void vendor_offsets(void)
+{
+    static const int8_t offsets[] = {24, -2, 0, 127, -128, -1, 1, -127};
+    int8_t one[8] = {0, 0, 0, 0, 0, 0, 0, 0};
+    uint32_t k;
+
+    expect_number(boardid_vendor_offsets_word(offsets), (uint64_t)0x8101FF80 << 32 | 0x7F00FE18,
+                  "eight offsets");
+    for (k = 0; k < 8; k++) {
+        one[k] = -1;
+        expect_number(boardid_vendor_offsets_word(one), (uint64_t)0xFF << 8 * k, "one offset");
+        one[k] = 0;
+    }
+}
+#endif
+
 int main(void)
 {
     constants();
@@ -314,5 +401,10 @@ int main(void)
     readings();
     fields();
     walks();
+#if BOARDID_EDITION >= 3
+    vendor_blocks();
+    vendor_pieces();
+    vendor_offsets();
+#endif
     return expectations_met("layouts");
 }

@@ -70,6 +70,33 @@ int main()
                                                          record, sizeof record)) == 1;
     good = good && boardid_record_at(record, 0).kind ==
                        BOARDID_KIND(BOARDID_FORMAT_ONIE, BOARDID_ONIE_COUNTRY_CODE);
+
+    static const int8_t offsets[BOARDID_VENDOR_OFFSETS] = {24, -2, 0, 0, 0, 0, 0, -128};
+    uint8_t piece[BOARDID_VENDOR_PIECE_SIZE], block[BOARDID_VENDOR_BLOCK_SIZE];
+    uint8_t vendor[BOARDID_VENDOR_PREFIX_LENGTH + BOARDID_VENDOR_PAYLOAD_MIN + 2];
+    uint8_t payload[BOARDID_VENDOR_PAYLOAD_MAX], amplifier[42];
+    boardid_vendor_piece_set(piece, 0, BOARDID_VENDOR_PAYLOAD_MIN + 2);
+    good = good && boardid_vendor_piece_at(piece, 0) == 18;
+    good = good && boardid_vendor_offsets_word(offsets) >> 56 == 0x80;
+    answer = boardid_vendor_write_payload(letters, sizeof letters, offsets, piece, sizeof piece,
+                                          vendor, sizeof vendor);
+    good = good && boardid_answer_count(answer) == sizeof vendor;
+    const boardid_field extension = {BOARDID_ONIE_VENDOR_EXTENSION, 0, 0, 0, sizeof vendor};
+    boardid_field_set(field, 0, extension);
+    answer = boardid_write_image(BOARDID_FORMAT_ONIE, field, sizeof field, vendor, sizeof vendor,
+                                 amplifier, sizeof amplifier);
+    good = good && boardid_answer_count(answer) == sizeof amplifier;
+    answer = boardid_vendor_read_payload(amplifier, sizeof amplifier, payload, sizeof payload,
+                                         block, sizeof block);
+    good = good && boardid_answer_count(answer) == 18;
+    const boardid_vendor_block given = boardid_vendor_block_at(block);
+    good = good && given.serial_length == 2;
+    good = good && std::memcmp(payload + given.serial_place, letters, 2) == 0;
+    good = good && given.offsets[BOARDID_VENDOR_C_BAND_WEST_OUT] == -2;
+    good = good && boardid_signed_word_at(block, 4 + BOARDID_VENDOR_L_BAND_EAST_OUT) == -128;
+    answer = boardid_vendor_read_payload(onie, sizeof onie, payload, sizeof payload, block,
+                                         sizeof block);
+    good = good && boardid_answer_number(answer) == BOARDID_REFUSED_NO_PAYLOAD;
 #endif
     std::printf("plus_plus: %s\n", good ? boardid_refusal_text(BOARDID_NOT_REFUSED) : "wrong");
     return good ? 0 : 1;

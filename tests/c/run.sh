@@ -124,7 +124,7 @@ compiles() {
 compiler() {
     cc=$1 cxx=$(plus_plus_of "$1")
     local sanitizers=(-O1 -g "-fsanitize=address,undefined" -fno-sanitize-recover=all)
-    local flavour folder edition other standard name
+    local flavour folder edition other standard name names
     for flavour in plain sanitized; do
         flags=(-O2)
         if [ "$flavour" = sanitized ]; then
@@ -138,10 +138,12 @@ compiler() {
         folder=$room/$cc-$flavour
         mkdir -p "$folder"
         for edition in "${editions[@]}"; do
-            for name in layouts calls old_header; do
+            names=(layouts calls)
+            [ "$edition" -lt 3 ] || names+=(vendor)
+            for name in "${names[@]}" old_header; do
                 try "$cc, $flavour: $name compiled with edition $edition" program "$folder/$name-$edition" "$edition" "tests/c/$name.c"
             done
-            for name in layouts calls; do
+            for name in "${names[@]}"; do
                 try "$cc, $flavour: $name of edition $edition" "$folder/$name-$edition"
             done
         done
@@ -189,7 +191,15 @@ typedef char itself[BOARDID_EDITION == $edition ? 1 : -1];"
         BOARDID_TINY_SYSTEM_PRODUCT_IDENTITY_BATCH BOARDID_READING_IDENTITY_WITH_BATCH boardid_record_batch
     brought_by 3 BOARDID_FORMAT_ONIE BOARDID_ONIE_PRODUCT_NAME BOARDID_ONIE_PART_NUMBER BOARDID_ONIE_SERIAL_NUMBER \
         BOARDID_ONIE_BASE_MAC_ADDRESS BOARDID_ONIE_MANUFACTURE_DATE BOARDID_ONIE_MAC_ADDRESS_COUNT BOARDID_ONIE_MANUFACTURER \
-        BOARDID_ONIE_COUNTRY_CODE BOARDID_ONIE_VENDOR BOARDID_ONIE_VENDOR_EXTENSION
+        BOARDID_ONIE_COUNTRY_CODE BOARDID_ONIE_VENDOR BOARDID_ONIE_VENDOR_EXTENSION \
+        BOARDID_REFUSED_NO_PAYLOAD BOARDID_REFUSED_PAYLOAD_LENGTH BOARDID_REFUSED_PAYLOAD_CHECK BOARDID_REFUSED_BLOCK \
+        BOARDID_VENDOR_PREFIX_LENGTH BOARDID_VENDOR_PIECE_MAX BOARDID_VENDOR_SERIAL_MAX BOARDID_VENDOR_PAYLOAD_MIN \
+        BOARDID_VENDOR_PAYLOAD_MAX BOARDID_VENDOR_OFFSETS BOARDID_VENDOR_PIECE_SIZE BOARDID_VENDOR_BLOCK_SIZE \
+        BOARDID_VENDOR_C_BAND_WEST_IN BOARDID_VENDOR_C_BAND_WEST_OUT BOARDID_VENDOR_C_BAND_EAST_IN BOARDID_VENDOR_C_BAND_EAST_OUT \
+        BOARDID_VENDOR_L_BAND_WEST_IN BOARDID_VENDOR_L_BAND_WEST_OUT BOARDID_VENDOR_L_BAND_EAST_IN BOARDID_VENDOR_L_BAND_EAST_OUT \
+        'sizeof(struct boardid_vendor_block)' boardid_signed_word_at boardid_vendor_block_at boardid_vendor_piece_at \
+        boardid_vendor_piece_set boardid_vendor_offsets_word boardid_vendor_read boardid_vendor_write \
+        boardid_vendor_read_payload boardid_vendor_write_payload
 }
 
 # brought_by EDITION NAME..: the headers from an edition on have these names, and those before have none of them.
@@ -235,15 +245,16 @@ made_headers() {
     ! "$copy/make-headers" && diff -r -x boardid.h.in include "$copy"
 }
 
-# The eight exported calls, and no other, are declared in a header and defined in the library.
+# exported_calls EDITION: the exported calls that an edition may make, and no other, are declared in its header and defined in the library.
 exported_calls() {
-    local name
+    local name names=(check list entry value string step write edit)
+    [ "$1" -lt 3 ] || names+=(vendor_read vendor_write)
     nm -g --defined-only "$lib" >"$room/nm" 2>"$room/nm.errors"
-    for name in check list entry value string step write edit; do
+    for name in "${names[@]}"; do
         grep -q " T boardid_$name\$" "$room/nm" || { echo "the library has no boardid_$name"; return 1; }
         grep -q "^uint64_t boardid_$name(" "include/edition-$1/boardid.h" || { echo "the header has no boardid_$name"; return 1; }
     done
-    [ "$(grep -c '^uint64_t boardid_' "include/edition-$1/boardid.h")" -eq 8 ]
+    [ "$(grep -c '^uint64_t boardid_' "include/edition-$1/boardid.h")" -eq "${#names[@]}" ]
 }
 
 # Runs make install with these words, and nothing of an outer make's.
@@ -320,7 +331,7 @@ else
     echo 'left out: there is no pkg-config'
 fi
 try 'make install with DESTDIR' staged
-for example in 1 2; do
+for example in 1 2 3; do
     try "worked example $example of docs/C-INTERFACE.md" worked_example "$example"
 done
 finish
