@@ -8,8 +8,8 @@
 #
 # LIB=FILE takes a library that is already built, and builds none. LDLIBS has what it needs to link.
 
-# The first number is the newest edition that the library knows; the second counts the changes since that are the same in every edition.
-VERSION := 3.0
+# The first number is the newest edition that the library knows; the second counts the changes since that brought no new edition.
+VERSION := 3.1
 EDITIONS := 1 2 3
 NEWEST := 3
 
