@@ -653,7 +653,10 @@ uint64_t boardid_edit(uint32_t format, uint32_t edition, const uint8_t *image, s
                       uint64_t n, const uint8_t *value, size_t value_length, uint8_t *out,
                       size_t out_length);
 
-/* From edition 3 on. The format is 4, ONIE; any other is refused with 16, whatever the edition. */
+/*
+ * From edition 3 on. The format is 4, ONIE: any other is refused with 16, whatever the edition, and
+ * then an edition that is not known with 1, and editions 1 and 2 with 16.
+ */
 uint64_t boardid_vendor_read(uint32_t format, uint32_t edition, const uint8_t *image,
                              size_t image_length, uint8_t *payload, size_t payload_length,
                              uint8_t *block, size_t block_length);
@@ -808,9 +811,9 @@ static inline uint64_t boardid_vendor_read_payload(const uint8_t *image, size_t 
  *
  * Gives the bytes put out: 5 for each piece, 16, and the serial's length. Bytes of out after them
  * stay as they were.
- * Refused, all at 0: 1, 2 for out; then 18 where the serial has more than 255 bytes, a piece more
- * than 250, there are no pieces, or they do not sum to the payload; then 12 where the values do not
- * fit in out.
+ * Refused, all at 0: 16, 1, 2 for out; then 18 where the serial has more than 255 bytes, a piece
+ * more than 250, there are no pieces, or they do not sum to the payload; then 12 where the values
+ * do not fit in out.
  */
 static inline uint64_t boardid_vendor_write_payload(const uint8_t *serial, size_t serial_length,
                                                     const int8_t offsets[8],

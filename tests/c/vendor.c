@@ -283,7 +283,7 @@ static void example(void)
     struct lent rest = lend_hex("54 6C 76 49 6E 66 6F 00 01 00 25 FD 1D " PREFIX EXAMPLE
                                 "FE 04 C4 CA CB B7 FD 06 " PREFIX "00 FF FF");
     struct lent bytes = lend(48);
-    struct boardid_vendor_block block;
+    struct boardid_vendor_block block, direct;
 
     expect_payload(one, payload.bytes, payload.length, zeros, "the example in one piece");
     expect_payload(two, payload.bytes, payload.length, zeros, "the example in two pieces");
@@ -296,6 +296,13 @@ static void example(void)
     expect(block.serial_length == 8 &&
                memcmp(payload.bytes + block.serial_place, "DQ000MPW", 8) == 0,
            "the serial is DQ000MPW");
+
+    /* The library is for a machine whose words have the low byte first: the struct may be lent. */
+    memset(&direct, 0x5A, sizeof direct);
+    expect_count(boardid_vendor_read_payload(one.bytes, one.length, payload.bytes, payload.length,
+                                             (uint8_t *)&direct, sizeof direct),
+                 24, "a struct that is lent");
+    expect(memcmp(&direct, &block, sizeof block) == 0, "a struct that is lent: its words");
     give_back(bytes);
     give_back(rest);
     give_back(two);
