@@ -27,3 +27,4 @@ pub mod EditsTaken
 pub mod EditRule
 pub mod Lookups
 pub mod Strings
+pub mod VendorRefused
