@@ -41,11 +41,11 @@ unknown-edition e none = go (knownEdition e) refl
     go false q = refl
 
 -- 1 where it stands for one, and the edition is not known
-no-edition : (f e : ℕ) (g : Format) → FormatNumber f g → (KnownEdition e → ⊥) → chosen f e ≡ Unknown 1
+pub no-edition : (f e : ℕ) (g : Format) → FormatNumber f g → (KnownEdition e → ⊥) → chosen f e ≡ Unknown 1
 no-edition f e g number none = number-chosen e number ∙ rw (unknown-edition e none)
 
 -- 16 where the edition is known, and before the first that has the format
-too-early : (f e : ℕ) (g : Format) → FormatNumber f g → KnownEdition e → e < firstEdition g → chosen f e ≡ Unknown 16
+pub too-early : (f e : ℕ) (g : Format) → FormatNumber f g → KnownEdition e → e < firstEdition g → chosen f e ≡ Unknown 16
 too-early f e g number k early = number-chosen e number ∙ rw (edition-known e k, first-edition g, lt-leb (firstEdition g) e early)
 
 all-refuse : (f e n : ℕ) → chosen f e ≡ Unknown n → AllRefuse f e n

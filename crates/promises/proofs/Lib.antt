@@ -28,3 +28,5 @@ pub mod EditRule
 pub mod Lookups
 pub mod Strings
 pub mod VendorRefused
+pub mod VendorSigns
+pub mod VendorAsked
