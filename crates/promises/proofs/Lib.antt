@@ -30,3 +30,6 @@ pub mod Strings
 pub mod VendorRefused
 pub mod VendorSigns
 pub mod VendorAsked
+pub mod VendorPieces
+pub mod VendorPayload
+pub mod VendorReads

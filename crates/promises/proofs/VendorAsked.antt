@@ -52,6 +52,10 @@ pub write-unasked : (f e n : ℕ) (serial : List ℕ) (o : Offsets) (pieces out 
 unfolding writeVendor
 write-unasked f e n serial o pieces out q = ap (λ (x : Chosen). putAsked x serial o pieces out) q
 
+-- any format but 4
+pub read-other : (f e : ℕ) (image buffer : List ℕ) → (f ≡ 4 → ⊥) → readVendor f e image buffer ≡ untaken (refusal 16 0) buffer
+read-other f e image buffer other = read-unasked f e 16 image buffer (other-asked f e (length buffer) other)
+
 -- a read into a buffer that is not too long, by what its image is read as
 pub read-by : (e : ℕ) (image buffer : List ℕ) → length buffer ≤ limit → readVendor 4 e image buffer ≡ takeRead (readImage 4 e image) buffer
 unfolding readVendor readImage

@@ -26,7 +26,7 @@ use Rattle.promises.specs.Vendor.{VendorRefused}
 use Rattle.promises.proofs.FormatNumbers.{Low, ChosenNumber, chosen-number}
 use Rattle.promises.proofs.Refusals.{farthest, refused-low, wider}
 
-abbrev readNumbers : List ℕ
+abbrev pub readNumbers : List ℕ
 readNumbers = 17 ∷ 18 ∷ 19 ∷ 20 ∷ 12 ∷ imageNumbers
 
 abbrev writeNumbers : List ℕ
@@ -51,11 +51,12 @@ asked-number numbers sixteen one two f e lent = either (ChosenNumber numbers) (e
 abbrev ReadLeaves : List ℕ → Taking → Type 0
 ReadLeaves buffer t = Leaves readNumbers buffer (toldVended (t .answer)) (t .memory)
 
-abbrev SaidNumber : Said → Type 0
+-- a payload is refused by a number of a read
+abbrev pub SaidNumber : Said → Type 0
 SaidNumber (Says b) = Unit {0}
 SaidNumber (Wrong n) = oneOf readNumbers n ≡ true
 
-said-number : (s : List ℕ) → SaidNumber (payloadSays s)
+pub said-number : (s : List ℕ) → SaidNumber (payloadSays s)
 unfolding payloadSays oneOf
 said-number s =
     either SaidNumber (measured s)
