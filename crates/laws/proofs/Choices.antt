@@ -17,6 +17,11 @@ use Rattle.layout.specs.Bytes.{if}
 pub false-true : {A : Type 0} → false ≡ true → A
 false-true e = let z : _≡_ {A = ℕ} 0 1 = cc in absurd (omega arith)
 
+-- A test that can't pass fails.
+pub refuted : (b : Bool) → (b ≡ true → ⊥) → b ≡ false
+refuted true h = absurd (h refl)
+refuted false h = refl
+
 -- What holds of both sides of a choice, where the test passed and where it failed, holds of the choice.
 pub either : {A : Type 0} (P : A → Type 0) (b : Bool) {x y : A} → (b ≡ true → P x) → (b ≡ false → P y) → P (if b (λ _. x) (λ _. y))
 either P true p q = p refl

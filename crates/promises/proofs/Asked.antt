@@ -16,6 +16,7 @@ use Rattle.layout.specs.Read.{limit, readImage}
 use Rattle.layout.specs.Calls.{checkImage, listEntries, entryAt, valueAt}
 use Rattle.layout.specs.Write.{writeImage}
 use Rattle.layout.specs.Edit.{editEntry}
+use Rattle.laws.proofs.Choices.{refuted}
 use Rattle.promises.specs.Words.{FormatNumber, fboss, vpd, tiny, onie, KnownEdition, firstEdition, Refuses, tellsEdit}
 use Rattle.promises.specs.Asked.{AllRefuse, TooLong, Asked}
 use Rattle.promises.proofs.Telling.{edition-known, known-edition, first-edition, number-chosen, serves-chosen}
@@ -34,11 +35,7 @@ no-format f e none =
     )
 
 unknown-edition : (e : ℕ) → (KnownEdition e → ⊥) → knownEdition e ≡ false
-unknown-edition e none = go (knownEdition e) refl
-  where
-    go : (b : Bool) → knownEdition e ≡ b → b ≡ false
-    go true q = absurd (none (known-edition e q))
-    go false q = refl
+unknown-edition e none = refuted (knownEdition e) (λ q. none (known-edition e q))
 
 -- 1 where it stands for one, and the edition is not known
 pub no-edition : (f e : ℕ) (g : Format) → FormatNumber f g → (KnownEdition e → ⊥) → chosen f e ≡ Unknown 1

@@ -1,36 +1,30 @@
 -- What a payload comes to, by its parts.
 -- Assumes nothing.
-use Prim.Native.Nat.{ℕ, suc, _+_, _*_, _-_, _≤_, _<_}
-use mathlib.Core.Path.{_≡_, refl, ap, ap₂, sym, _∙_}
+use Prim.Native.Nat.{ℕ, suc, _+_, _*_, _-_, _≤_}
+use mathlib.Core.Path.{_≡_, ap, sym, _∙_}
 use mathlib.Core.List.{List, [], _∷_, _++_, append-assoc}
-use mathlib.Core.Bool.{Bool, true, false, _&&_}
+use mathlib.Core.Bool.{true}
 use native.Mathlib.Omega.{arith}
 use native.Mathlib.Nat.{add-zero}
 use lib.ListN.{length, getD, take, drop, length-append, length-drop, take-append-drop, drop-of-length-le, List·getD-append}
 use lib.Seq.{length-take-le, take-all, take-at, drop-at, drop-drop, drop-cons, getD-at, getD-drop}
-use lib.Dec.{leb, eqb}
+use lib.Dec.{eqb}
 use borrow.Author.Tests.{eqb-true, eq-eqb, ne-eqb, le-leb, lt-leb}
 use Rattle.crc.specs.Crc.{check32Of}
-use Rattle.layout.specs.Bytes.{if, sameBytes, part, partAt, refusal}
+use Rattle.layout.specs.Bytes.{sameBytes, part, partAt}
 use Rattle.layout.specs.Onie.{fourBytes}
-use Rattle.laws.proofs.Choices.{both}
+use Rattle.laws.proofs.Choices.{refuted, both}
 use Rattle.laws.proofs.Images.{same-refl, same-true}
 use Rattle.blocks.specs.declared.Offsets.{Offsets}
 use Rattle.blocks.specs.declared.Block.{Block}
 use Rattle.blocks.specs.declared.Said.{Said}
 use Rattle.blocks.specs.declared.Said.the-variants.{Says, Wrong}
 use Rattle.blocks.specs.declared.Vended.the-variants.{Tells}
-use Rattle.blocks.specs.Offset.{signed, offsetsIn}
 use Rattle.blocks.specs.Payload.{serialLength, blockLength, blockPlace, measured, checked, amplifier, blockOf, payloadSays}
 use Rattle.blocks.specs.Vendor.{Taking, taking, toldVended}
 use Rattle.promises.specs.Payload.{Parts, RightCheck, Amplifier, SaysOffsets}
 use Rattle.promises.specs.Vendor.{PayloadRule}
 use Rattle.promises.proofs.VendorSigns.{says-one}
-
--- a test that can't pass fails
-refuted : (b : Bool) → (b ≡ true → ⊥) → b ≡ false
-refuted true h = absurd (h refl)
-refuted false h = refl
 
 -- ---- a block
 
@@ -47,20 +41,19 @@ nine-bytes l nine zero =
       b6 = getD l 7 0;
       b7 = getD l 8 0;
       is =
-          cc
-              (
-                zero,
-                drop-cons l 0 0 (omega arith),
-                drop-cons l 1 0 (omega arith),
-                drop-cons l 2 0 (omega arith),
-                drop-cons l 3 0 (omega arith),
-                drop-cons l 4 0 (omega arith),
-                drop-cons l 5 0 (omega arith),
-                drop-cons l 6 0 (omega arith),
-                drop-cons l 7 0 (omega arith),
-                drop-cons l 8 0 (omega arith),
-                drop-of-length-le l {i = 9} (omega arith),
-              );
+          cc (
+            zero,
+            drop-cons l 0 0 (omega arith),
+            drop-cons l 1 0 (omega arith),
+            drop-cons l 2 0 (omega arith),
+            drop-cons l 3 0 (omega arith),
+            drop-cons l 4 0 (omega arith),
+            drop-cons l 5 0 (omega arith),
+            drop-cons l 6 0 (omega arith),
+            drop-cons l 7 0 (omega arith),
+            drop-cons l 8 0 (omega arith),
+            drop-of-length-le l {i = 9} (omega arith),
+          );
     }
 
 -- ---- a payload of parts

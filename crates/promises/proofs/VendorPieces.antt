@@ -7,10 +7,10 @@ use mathlib.Core.Bool.{Bool, true, false}
 use lib.ListN.{length, drop, take-append-drop}
 use lib.Dec.{eqb}
 use borrow.Author.Tests.{eqb-true}
-use Rattle.layout.specs.Bytes.{if, sameBytes, part, refusal}
+use Rattle.layout.specs.Bytes.{sameBytes, part, refusal}
 use Rattle.layout.specs.Walk.{Content}
 use Rattle.layout.specs.Read.{limit, Read}
-use Rattle.laws.proofs.Choices.{false-true, both}
+use Rattle.laws.proofs.Choices.{false-true, refuted, both}
 use Rattle.laws.proofs.Images.{same-true}
 use Rattle.blocks.specs.Payload.{prefix, matches, matching, joined, payloadSays}
 use Rattle.blocks.specs.Vendor.{Taking, untaken, taking, takeMatching, takeRead, readVendor}
@@ -32,11 +32,7 @@ matches-holds c q =
     (eqb-true (c .code) 0xFD (b .0), sym (take-append-drop 5 (c .value)) ∙ ap (λ (l : List ℕ). l ++ drop 5 (c .value)) (same-true (part 0 5 (c .value)) prefix (b .1)))
 
 passes-matches : (c : Content) → ((piece : List ℕ) → Holds c piece → ⊥) → matches c ≡ false
-passes-matches c none = go (matches c) refl
-  where
-    go : (b : Bool) → matches c ≡ b → b ≡ false
-    go true q = absurd (none (drop 5 (c .value)) (matches-holds c q))
-    go false q = refl
+passes-matches c none = refuted (matches c) (λ q. none (drop 5 (c .value)) (matches-holds c q))
 
 -- ---- a list of entries
 

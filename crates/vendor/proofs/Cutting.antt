@@ -6,12 +6,11 @@ use mathlib.Core.List.{List, [], _∷_, _++_, append-assoc, append-nil}
 use mathlib.Core.Bool.{Bool, true, false, _&&_}
 use native.Mathlib.Nat.{add-assoc, add-zero, zero-add}
 use native.Mathlib.Omega.{arith}
-use lib.ListN.{length, getD, take, drop, length-append, length-take, length-drop}
-use lib.Seq.{getD-drop, drop-drop, length-take-le}
-use lib.Dec.{leb, eqb}
+use lib.ListN.{length, take, drop, length-append, length-drop}
+use lib.Seq.{getD-drop, drop-drop}
+use lib.Dec.{leb}
 use borrow.Author.Tests.{le-leb, lt-leb, eq-eqb, ne-eqb}
 use Rattle.layout.specs.Bytes.{if, all}
-use Rattle.layout.specs.Read.{limit}
 use Rattle.layout.specs.Write.{word, items}
 use Rattle.laws.proofs.Choices.{false-true}
 use Rattle.fields.proofs.Lists.{items-none, items-more}
@@ -169,14 +168,6 @@ cut-one n s = ap (λ (l : List ℕ). prefix ++ l) (append-nil (take n s))
 cut-none : (s : List ℕ) → cutInto [] s ≡ []
 unfolding cutInto
 cut-none s = refl
-
--- each piece has five bytes more, where there are bytes for all
-pub length-cut : (xs s : List ℕ) → sum xs ≤ length s → length (cutInto xs s) ≡ 5 * length xs + sum xs
-unfolding cutInto
-length-cut [] s le = refl
-length-cut (x ∷ xs) s le =
-    let rest = length-cut xs (drop x s) (omega (arith, length-drop x s)) in
-    omega (arith, rest, length-append (take x s) (cutInto xs (drop x s)), length-take-le x s (omega arith))
 
 -- ---- writing
 

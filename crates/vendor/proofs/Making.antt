@@ -2,40 +2,31 @@
 -- Assumes nothing.
 use Prim.Native.Nat.{ℕ, _+_, _*_, _≤_, _<_}
 use mathlib.Core.Path.{_≡_, refl, ap, sym, _∙_}
-use mathlib.Core.List.{List, _∷_, _++_}
+use mathlib.Core.List.{List}
 use mathlib.Core.Bool.{Bool, true, false, _&&_}
 use native.Mathlib.Omega.{arith}
-use lib.ListN.{length, take, length-append}
+use lib.ListN.{length, take}
 use lib.Dec.{ltb, leb, eqb}
 use borrow.Author.Tests.{le-leb, lt-leb, ltb-false, eqb-true}
-use Rattle.crc.specs.Crc.{check32Of}
 use Rattle.layout.specs.declared.Format.{Format}
 use Rattle.layout.specs.declared.Chosen.{Chosen}
 use Rattle.layout.specs.declared.Chosen.the-variants.{Known, Unknown}
 use Rattle.layout.specs.declared.Made.{Made}
 use Rattle.layout.specs.declared.Made.the-variants.{Wrote}
 use Rattle.layout.specs.Bytes.{if, all, part, refusal}
-use Rattle.layout.specs.Onie.{fourBytes}
 use Rattle.layout.specs.Editions.{chosen}
 use Rattle.layout.specs.Read.{limit}
 use Rattle.layout.specs.Write.{Outcome, refuse}
 use Rattle.laws.proofs.Choices.{both}
 use Rattle.output.specs.Placing.{copied}
 use Rattle.blocks.specs.declared.Offsets.{Offsets}
-use Rattle.blocks.specs.Offset.{offsetBytes}
 use Rattle.blocks.specs.Payload.{front, payloadOf, cutInto, sum, writable}
-use Rattle.blocks.specs.Vendor.{askChosen, asked, putValues, putAsked, writeVendor}
+use Rattle.blocks.specs.Vendor.{askChosen, asked, putValues, writeVendor}
+use Rattle.blocks.proofs.Asking.{write-asked}
+use Rattle.blocks.proofs.Lengths.{length-front, length-values}
 use Rattle.vendor.specs.declared.Pieces.the-variants.{Right, Wrong}
 use Rattle.vendor.specs.Pieces.{countedBy}
-use Rattle.vendor.proofs.Cutting.{length-cut}
 use Rattle.vendor.proofs.Taking.{copied-front, joined-there}
-
-pub length-front : (serial : List ℕ) (o : Offsets) → length (front serial o) ≡ 12 + length serial
-length-front serial o = omega (arith, length-append serial (0x00 ∷ 0x09 ∷ 0x00 ∷ offsetBytes o))
-
-pub length-payload : (serial : List ℕ) (o : Offsets) → length (payloadOf serial o) ≡ 16 + length serial
-unfolding payloadOf
-length-payload serial o = omega (arith, length-front serial o, length-append (front serial o) (fourBytes (check32Of (front serial o))))
 
 -- what comes before the check is read where it was put
 pub front-there : (d serial : List ℕ) (o : Offsets) → 12 + length serial ≤ length d → take (12 + length serial) (copied d 0 (front serial o)) ≡ front serial o
@@ -52,17 +43,17 @@ module _ (serial : List ℕ) (o : Offsets) (pieces : List ℕ) (whole : sum piec
   abbrev values : List ℕ
   values = cutInto pieces (payloadOf serial o)
 
-  pub length-values : length values ≡ 5 * length pieces + (16 + length serial)
-  length-values = omega (arith, whole, length-cut pieces (payloadOf serial o) (omega (arith, whole, length-payload serial o)))
+  long : length values ≡ 5 * length pieces + (16 + length serial)
+  long = length-values serial o pieces whole
 
   pub values-short : (out : List ℕ) → length out < 5 * length pieces + (16 + length serial) → putValues values out ≡ refuse (refusal 12 0) out
-  values-short out lt = rw (lt-leb (length values) (length out) (omega (arith, length-values)))
+  values-short out lt = rw (lt-leb (length values) (length out) (omega (arith, long)))
 
   pub values-fit : (out : List ℕ) → 5 * length pieces + (16 + length serial) ≤ length out →
       putValues values out ≡ record { answer = Wrote (5 * length pieces + (16 + length serial)); memory = copied out 0 values }
   values-fit out le =
-      let fits : length values ≤ length out = omega (arith, length-values) in
-      rw (le-leb (length values) (length out) fits, copied-front out values fits, length-values)
+      let fits : length values ≤ length out = omega (arith, long) in
+      rw (le-leb (length values) (length out) fits, copied-front out values fits, long)
 
 -- ---- the call
 
@@ -80,23 +71,19 @@ asked-short f e lent g q = go (eqb f 4) (chosen f e) q
     go false x q = let z : _≡_ {A = ℕ} 0 1 = cc in absurd (omega arith)
 
 module _ (f e : ℕ) (serial : List ℕ) (o : Offsets) (pieces out : List ℕ) where
-  pub write-unasked : (n : ℕ) → asked f e (length out) ≡ Unknown n → writeVendor f e serial o pieces out ≡ refuse (refusal n 0) out
-  unfolding writeVendor
-  write-unasked n q = ap (λ (x : Chosen). putAsked x serial o pieces out) q
-
   module _ (g : Format) (q : asked f e (length out) ≡ Known g) where
     pub write-short : length out ≤ limit
     write-short = asked-short f e (length out) g q
 
     pub write-serial : 255 < length serial → writeVendor f e serial o pieces out ≡ refuse (refusal 18 0) out
-    unfolding writeVendor writable
-    write-serial lt = ap (λ (x : Chosen). putAsked x serial o pieces out) q ∙ rw (lt-leb (length serial) 255 lt)
+    unfolding writable
+    write-serial lt = write-asked f e serial o pieces out g q ∙ rw (lt-leb (length serial) 255 lt)
 
     module _ (le : length serial ≤ 255) where
       by-pieces : (b : Bool) → (all (λ n. leb n 250) pieces && eqb (sum pieces) (16 + length serial)) ≡ b →
           writeVendor f e serial o pieces out ≡ if b (λ _. putValues (cutInto pieces (payloadOf serial o)) out) (λ _. refuse (refusal 18 0) out)
-      unfolding writeVendor writable
-      by-pieces b is = ap (λ (x : Chosen). putAsked x serial o pieces out) q ∙ rw (le-leb (length serial) 255 le, is)
+      unfolding writable
+      by-pieces b is = write-asked f e serial o pieces out g q ∙ rw (le-leb (length serial) 255 le, is)
 
       pub write-wrong : countedBy pieces (16 + length serial) ≡ Wrong → writeVendor f e serial o pieces out ≡ refuse (refusal 18 0) out
       write-wrong w = go (all (λ n. leb n 250) pieces && eqb (sum pieces) (16 + length serial)) refl w

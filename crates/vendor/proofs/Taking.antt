@@ -1,21 +1,18 @@
 -- A read by what taking the image and joining its pieces give.
 -- Assumes nothing.
-use Prim.Native.Nat.{ℕ, _+_, _≤_, _<_}
+use Prim.Native.Nat.{ℕ, _+_, _≤_}
 use mathlib.Core.Path.{_≡_, refl, ap, sym, _∙_}
 use mathlib.Core.List.{List, [], _∷_, _++_, map}
-use mathlib.Core.Bool.{Bool, true, false}
+use mathlib.Core.Bool.{true, false}
 use native.Mathlib.Nat.{zero-add}
 use native.Mathlib.Omega.{arith}
 use lib.ListN.{length, drop}
-use lib.Dec.{eqb}
-use borrow.Author.Tests.{eqb-true}
 use Rattle.layout.specs.declared.Format.{Format}
 use Rattle.layout.specs.declared.Format.the-variants.{Onie}
-use Rattle.layout.specs.declared.Chosen.{Chosen}
-use Rattle.layout.specs.declared.Chosen.the-variants.{Known, Unknown}
+use Rattle.layout.specs.declared.Chosen.the-variants.{Known}
 use Rattle.layout.specs.declared.Opened.the-variants.{Room as Opens}
 use Rattle.layout.specs.declared.Refusal.{Refusal}
-use Rattle.layout.specs.Bytes.{if, part, refusal}
+use Rattle.layout.specs.Bytes.{part, refusal}
 use Rattle.layout.specs.Onie.{onie}
 use Rattle.layout.specs.Editions.{shape, chosen}
 use Rattle.layout.specs.Walk.{Content, content, done}
@@ -29,12 +26,12 @@ use Rattle.output.proofs.Overlay.{copied-over, part-over}
 use Rattle.accept.specs.declared.Room.{Room}
 use Rattle.accept.specs.declared.Taken.the-variants.{Is, Isnt}
 use Rattle.accept.specs.Taken.{taken}
-use Rattle.accept.proofs.Rooms.{Took, took, not-took}
+use Rattle.accept.proofs.Rooms.{took, not-took}
 use Rattle.blocks.specs.declared.Vended.{Vended}
 use Rattle.blocks.specs.Payload.{matching, joined, payloadSays}
-use Rattle.blocks.specs.Vendor.{askChosen, asked, Taking, untaken, taking, takeMatching, takeRead, takeAsked, readVendor}
-use Rattle.vendor.specs.declared.Joined.{Joined}
-use Rattle.vendor.specs.Pieces.{isThere, joinedBy}
+use Rattle.blocks.specs.Vendor.{asked, Taking, untaken, taking, takeMatching, takeRead, readVendor}
+use Rattle.blocks.proofs.Asking.{asked-four, read-asked}
+use Rattle.vendor.specs.Pieces.{isThere}
 
 -- an answer and a memory are those of an outcome
 pub outcome : {a : Vended} {m : List ℕ} {t : Taking} → t ≡ record { answer = a; memory = m } → (a ≡ t .answer) × (m ≡ t .memory)
@@ -66,27 +63,13 @@ four-onie : (f e : ℕ) (g : Format) → f ≡ 4 → chosen f e ≡ Known g → 
 unfolding chosen
 four-onie f e g q k = sym (with-known e Onie g (ap (λ (x : ℕ). chosen x e) (sym q) ∙ k) .0)
 
--- what both calls ask is refused but where the format is 4
-asked-four : (f e lent : ℕ) (g : Format) → asked f e lent ≡ Known g → f ≡ 4
-unfolding asked
-asked-four f e lent g q = go (eqb f 4) refl q
-  where
-    go : (b : Bool) → eqb f 4 ≡ b → if b (λ _. askChosen (chosen f e) lent) (λ _. Unknown 16) ≡ Known g → f ≡ 4
-    go true z q = eqb-true f 4 z
-    go false z q = let z : _≡_ {A = ℕ} 0 1 = cc in absurd (omega arith)
-
 module _ (f e : ℕ) (image buffer : List ℕ) where
-  pub read-unasked : (n : ℕ) → asked f e (length buffer) ≡ Unknown n → readVendor f e image buffer ≡ untaken (refusal n 0) buffer
-  unfolding readVendor
-  read-unasked n q = ap (λ (x : Chosen). takeAsked x f e image buffer) q
-
   module _ (g : Format) (q : asked f e (length buffer) ≡ Known g) where
-    pub read-asked : readVendor f e image buffer ≡ takeRead (readImage f e image) buffer
-    unfolding readVendor
-    read-asked = ap (λ (x : Chosen). takeAsked x f e image buffer) q
+    reads : readVendor f e image buffer ≡ takeRead (readImage f e image) buffer
+    reads = read-asked f e image buffer g q
 
     pub read-refused : (r : Refusal) → taken f e image ≡ Isnt r → readVendor f e image buffer ≡ untaken r buffer
-    read-refused r t = read-asked ∙ ap (λ (x : Read). takeRead x buffer) (not-took f e image r t)
+    read-refused r t = reads ∙ ap (λ (x : Read). takeRead x buffer) (not-took f e image r t)
 
     -- an image that is taken: its walk, its room, and what the read comes to
     pub record Reached (room : Room) : Type 0 where
@@ -107,5 +90,5 @@ module _ (f e : ℕ) (image buffer : List ℕ) where
           done = rw walks tt;
           bound = w .bound;
           most = omega (arith, r .starts, r .ends, r .most);
-          is = read-asked ∙ ap (λ (x : Read). takeRead x buffer) (w .read) ∙ rw walks;
+          is = reads ∙ ap (λ (x : Read). takeRead x buffer) (w .read) ∙ rw walks;
         }

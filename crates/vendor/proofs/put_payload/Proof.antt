@@ -12,7 +12,8 @@ use Rattle.crc.specs.Crc.{check32Of}
 use Rattle.output.specs.Placing.{copied}
 use Rattle.output.proofs.Overlay.{length-copied, copied-then}
 use Rattle.blocks.specs.Payload.{front, payloadOf}
-use Rattle.vendor.proofs.Making.{length-front, front-there}
+use Rattle.blocks.proofs.Lengths.{length-front}
+use Rattle.vendor.proofs.Making.{front-there}
 use borrow.Author.Needs.{needs}
 use Rattle.vendor.proofs.put_payload.Statement.{statement}
 use Rattle.vendor.proofs.put_payload.Tie as tie

@@ -3,7 +3,8 @@
 use mathlib.Core.Path.{ap, sym, _∙_}
 use denote.Ref.{now}
 use Rattle.blocks.specs.Vendor.{Taking}
-use Rattle.vendor.proofs.Taking.{outcome, read-unasked, read-refused, read-reached}
+use Rattle.blocks.proofs.Asking.{read-unasked}
+use Rattle.vendor.proofs.Taking.{outcome, read-refused, read-reached}
 use borrow.Author.Needs.{needs}
 use Rattle.vendor.proofs.read_vendor.Statement.{statement}
 use Rattle.vendor.proofs.read_vendor.Tie as tie

@@ -4,7 +4,8 @@ use mathlib.Core.Path.{ap, sym, _∙_}
 use denote.Ref.{now}
 use Rattle.layout.specs.Write.{Outcome}
 use Rattle.blocks.specs.Vendor.{piecesIn}
-use Rattle.vendor.proofs.Making.{outcome, write-unasked, write-short, write-serial, write-wrong, write-right}
+use Rattle.blocks.proofs.Asking.{write-unasked}
+use Rattle.vendor.proofs.Making.{outcome, write-short, write-serial, write-wrong, write-right}
 use borrow.Author.Needs.{needs}
 use Rattle.vendor.proofs.write_vendor.Statement.{statement}
 use Rattle.vendor.proofs.write_vendor.Tie as tie
