@@ -33,3 +33,4 @@ pub mod VendorAsked
 pub mod VendorPieces
 pub mod VendorPayload
 pub mod VendorReads
+pub mod VendorWrites

@@ -14,7 +14,7 @@ use Rattle.layout.specs.Vpd.{vpd}
 use Rattle.layout.specs.Tiny.{tiny}
 use Rattle.layout.specs.Onie.{onie}
 use Rattle.layout.specs.Editions.{shape, from, never, sinceIn, reached, names}
-use Rattle.laws.proofs.Choices.{false-true, both}
+use Rattle.laws.proofs.Choices.{refuted, false-true, both}
 use Rattle.promises.specs.Words.{KnownEdition}
 use Rattle.promises.specs.Names.{One, Two, Named, sinceOne, sinceTwo, sinceThree, vpd01, tiny01, tiny10, tiny11, tiny60, tiny61, tiny62, vpdFE, tiny80, tiny81, onie21, onie22, onie23, onie24, onie25, onie2A, onie2B, onie2C, onie2D, onieFD}
 
@@ -112,8 +112,4 @@ names-named Onie e c k h = go (between 0x21 0x25 c) (between 0x2A 0x2D c) (betwe
     go false false false t₁ t₂ t₃ h = false-true h
 
 pub unnamed-names : (g : Format) (e c : ℕ) → KnownEdition e → (Named g e c → ⊥) → names (shape g) e c ≡ false
-unnamed-names g e c k not = go (names (shape g) e c) refl
-  where
-    go : (b : Bool) → names (shape g) e c ≡ b → b ≡ false
-    go true q = absurd (not (names-named g e c k q))
-    go false q = refl
+unnamed-names g e c k not = refuted (names (shape g) e c) (λ q. not (names-named g e c k q))

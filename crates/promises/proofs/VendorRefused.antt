@@ -29,7 +29,7 @@ use Rattle.promises.proofs.Refusals.{farthest, refused-low, wider}
 abbrev pub readNumbers : List ℕ
 readNumbers = 17 ∷ 18 ∷ 19 ∷ 20 ∷ 12 ∷ imageNumbers
 
-abbrev writeNumbers : List ℕ
+abbrev pub writeNumbers : List ℕ
 writeNumbers = 16 ∷ 1 ∷ 2 ∷ 18 ∷ 12 ∷ []
 
 -- what a call tells is of these numbers, and where it is refused the memory m is as it was
@@ -38,7 +38,7 @@ record Leaves (numbers lent : List ℕ) (t : Told) (m : List ℕ) : Type 0 where
   same : IsRefused t → m ≡ lent
 
 -- what both calls ask is refused by a number of a list that has 16, 1 and 2
-asked-number : (numbers : List ℕ) → oneOf numbers 16 ≡ true → oneOf numbers 1 ≡ true → oneOf numbers 2 ≡ true → (f e lent : ℕ) → ChosenNumber numbers (asked f e lent)
+pub asked-number : (numbers : List ℕ) → oneOf numbers 16 ≡ true → oneOf numbers 1 ≡ true → oneOf numbers 2 ≡ true → (f e lent : ℕ) → ChosenNumber numbers (asked f e lent)
 unfolding asked
 asked-number numbers sixteen one two f e lent = either (ChosenNumber numbers) (eqb f 4) (λ _. go (chosen f e) (chosen-number numbers sixteen one f e)) (λ _. sixteen)
   where
