@@ -34,3 +34,4 @@ pub mod VendorPieces
 pub mod VendorPayload
 pub mod VendorReads
 pub mod VendorWrites
+pub mod VendorTrip

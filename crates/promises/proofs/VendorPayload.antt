@@ -1,7 +1,7 @@
 -- What a payload comes to, by its parts.
 -- Assumes nothing.
 use Prim.Native.Nat.{ℕ, suc, _+_, _*_, _-_, _≤_}
-use mathlib.Core.Path.{_≡_, ap, sym, _∙_}
+use mathlib.Core.Path.{_≡_, refl, ap, sym, _∙_}
 use mathlib.Core.List.{List, [], _∷_, _++_, append-assoc}
 use mathlib.Core.Bool.{true}
 use native.Mathlib.Omega.{arith}
@@ -14,6 +14,7 @@ use Rattle.crc.specs.Crc.{check32Of}
 use Rattle.layout.specs.Bytes.{sameBytes, part, partAt}
 use Rattle.layout.specs.Onie.{fourBytes}
 use Rattle.laws.proofs.Choices.{refuted, both}
+use Rattle.laws.proofs.Frames.{part-between}
 use Rattle.laws.proofs.Images.{same-refl, same-true}
 use Rattle.blocks.specs.declared.Offsets.{Offsets}
 use Rattle.blocks.specs.declared.Block.{Block}
@@ -102,9 +103,20 @@ module _ {s : List ℕ} (x : Parts s) where
   long : length s ≡ length before + 4
   long = ap length (x .is) ∙ length-append before (x .check) ∙ omega (arith, x .four)
 
+  pub parts-long : length s ≡ 1 + length serial + 2 + length block + 4
+  parts-long = omega (arith, long, before-long)
+
+  -- the serial stands at place 1, whatever follows the payload
+  pub serial-there : (t : List ℕ) → part 1 (length serial) (s ++ t) ≡ serial
+  serial-there t =
+      let rest : List ℕ = x .high ∷ x .low ∷ (block ++ x .check) in
+      ap (λ (l : List ℕ). part 1 (length serial) (l ++ t)) split
+      ∙ ap (λ (l : List ℕ). part 1 (length serial) (length serial ∷ l)) (append-assoc serial rest t)
+      ∙ part-between (length serial ∷ []) serial (rest ++ t) 1 refl
+
   parts-measured : measured s ≡ true
   unfolding measured
-  parts-measured = rw (block-long, serial-long) (eq-eqb (length s) (1 + length serial + 2 + length block + 4) (omega (arith, long, before-long)))
+  parts-measured = rw (block-long, serial-long) (eq-eqb (length s) (1 + length serial + 2 + length block + 4) parts-long)
 
   parts-checked : checked s ≡ sameBytes (x .check) (fourBytes (check32Of before))
   unfolding checked part
