@@ -4,7 +4,7 @@ use Prim.Native.Nat.{ℕ, zero, suc, _-_, _≤_, _<_}
 use mathlib.Core.Path.{_≡_, refl, ap, sym, subst, _∙_}
 use native.Mathlib.Nat.{zero-add}
 use native.Mathlib.Omega.{arith}
-use borrow.Author.Tests.{lt-ltb, le-ltb, leb-false}
+use borrow.Author.Tests.{le-ltb, leb-false}
 use mathlib.Core.Bool.{true, false}
 use mathlib.Core.List.{List, [], _∷_}
 use lib.ListN.{getD}
@@ -17,6 +17,7 @@ use mir.Facts.{toZ-ofZ, toZ-pos}
 use Rattle.laws.proofs.Choices.{false-true}
 use Rattle.blocks.specs.declared.Offsets.{Offsets}
 use Rattle.blocks.specs.Offset.{signed, signedByte, offsetsIn, eachOffset}
+use Rattle.blocks.proofs.Signs.{low-signed, high-signed}
 
 -- ---- -1 less a number
 
@@ -30,7 +31,7 @@ less-neg n = rw (le-ltb (suc n) 1 (omega arith)) (ap pos (let q : suc n - 1 ≡ 
 -- ---- a byte as a number
 
 pub low-byte : (b : ℕ) → b < 128 → toZ w8 b ≡ signed b
-low-byte b lt = toZ-pos w8 lt ∙ rw (lt-ltb b 128 lt)
+low-byte b lt = toZ-pos w8 lt ∙ sym (low-signed b lt)
 
 module _ (b : ℕ) (le : 128 ≤ b) (byte : b < 256) where
   from-top : negsuc 0 -ℤ toZ w8 (255 - b) ≡ negsuc (255 - b)
@@ -43,7 +44,7 @@ module _ (b : ℕ) (le : 128 ≤ b) (byte : b < 256) where
   high-fits = subst (SFits w8) (sym from-top) fits-top
 
   pub high-byte : toZ w8 (ofZ w8 (negsuc 0 -ℤ toZ w8 (255 - b))) ≡ signed b
-  high-byte = toZ-ofZ high-fits ∙ from-top ∙ sym (rw (le-ltb b 128 le))
+  high-byte = toZ-ofZ high-fits ∙ from-top ∙ sym (high-signed b le)
 
 -- ---- a number as a byte
 

@@ -7,16 +7,11 @@ use mathlib.Core.Bool.{Bool, true, false, cond}
 use native.Mathlib.Omega.{arith}
 use lib.IntN.{ℤ, pos, negsuc, natAbs, _+ℤ_}
 use lib.Dec.{ltb}
-use borrow.Author.Tests.{ltb-true, ltb-false, lt-ltb, le-ltb}
+use borrow.Author.Tests.{ltb-true, ltb-false, le-ltb}
 use Rattle.blocks.specs.Offset.{signed, signedByte}
+use Rattle.blocks.proofs.Signs.{low-signed, high-signed}
 use Rattle.promises.specs.Payload.{SaysOffset, SignedByte}
 use Rattle.promises.specs.Vendor.{Signs}
-
-pub low-signed : (b : ℕ) → b < 128 → signed b ≡ pos b
-low-signed b lt = rw (lt-ltb b 128 lt)
-
-pub high-signed : (b : ℕ) → 128 ≤ b → signed b ≡ negsuc (255 - b)
-high-signed b le = rw (le-ltb b 128 le)
 
 -- a byte is low or high
 data Half (b : ℕ) : Type 0 where
