@@ -29,7 +29,7 @@ other-asked : (f e lent : ℕ) → (f ≡ 4 → ⊥) → asked f e lent ≡ Unkn
 unfolding asked
 other-asked f e lent other = rw (ne-eqb f 4 other)
 
-pub asked-unknown : (e lent n : ℕ) → chosen 4 e ≡ Unknown n → asked 4 e lent ≡ Unknown n
+asked-unknown : (e lent n : ℕ) → chosen 4 e ≡ Unknown n → asked 4 e lent ≡ Unknown n
 unfolding asked
 asked-unknown e lent n q = rw q
 

@@ -134,7 +134,10 @@ module _ {s : List ℕ} (x : Parts s) where
 
   -- the first byte of the block, where it has one
   first-is : getD s (blockPlace s) 0 ≡ getD (block ++ x .check) 0 0
-  first-is = ap (λ (n : ℕ). getD s (1 + n + 2) 0) serial-long ∙ sym (getD-drop (1 + length serial + 2) s 0 0 ∙ ap (λ (n : ℕ). getD s n 0) (add-zero (1 + length serial + 2))) ∙ ap (λ (l : List ℕ). getD l 0 0) rest
+  first-is =
+      ap (λ (n : ℕ). getD s (1 + n + 2) 0) serial-long
+      ∙ sym (getD-drop (1 + length serial + 2) s 0 0 ∙ ap (λ (n : ℕ). getD s n 0) (add-zero (1 + length serial + 2)))
+      ∙ ap (λ (l : List ℕ). getD l 0 0) rest
 
   amplifier-is : Amplifier block → amplifier s ≡ true
   unfolding amplifier
@@ -171,19 +174,19 @@ module _ {s : List ℕ} (x : Parts s) where
 
   -- ---- what it comes to
 
-  pub parts-unchecked : (RightCheck x → ⊥) → payloadSays s ≡ Wrong 19
+  parts-unchecked : (RightCheck x → ⊥) → payloadSays s ≡ Wrong 19
   unfolding payloadSays
   parts-unchecked wrong = rw (parts-measured, refuted (checked s) (λ q. wrong (checked-right q)))
 
-  pub parts-other : RightCheck x → (Amplifier block → ⊥) → payloadSays s ≡ Wrong 20
+  parts-other : RightCheck x → (Amplifier block → ⊥) → payloadSays s ≡ Wrong 20
   unfolding payloadSays
   parts-other right other = rw (parts-measured, right-checked right, refuted (amplifier s) (λ q. other (is-amplifier q)))
 
-  pub parts-block : RightCheck x → Amplifier block → payloadSays s ≡ Says (blockOf s)
+  parts-block : RightCheck x → Amplifier block → payloadSays s ≡ Says (blockOf s)
   unfolding payloadSays
   parts-block right a = rw (parts-measured, right-checked right, amplifier-is a)
 
-  pub parts-say : RightCheck x → (a : Amplifier block) (o : Offsets) → SaysOffsets a o → payloadSays s ≡ Says (says o)
+  parts-say : RightCheck x → (a : Amplifier block) (o : Offsets) → SaysOffsets a o → payloadSays s ≡ Says (says o)
   parts-say right a o z = parts-block right a ∙ ap Says (block-says a o z)
 
 -- ---- a payload that is measured
@@ -200,7 +203,8 @@ measured-parts (n ∷ l) q =
     let size : length l ≡ n + 2 + (high * 256 + low) + 4 = (let h = rw (one, two) at q in omega arith) in
     let after : length tail ≡ high * 256 + low + 4 = omega (arith, length-drop (suc (suc n)) l) in
     let serial : length (take n l) ≡ n = length-take-le n l (omega arith) in
-    let cut : l ≡ take n l ++ (high ∷ low ∷ (take (high * 256 + low) tail ++ drop (high * 256 + low) tail)) = cc (take-append-drop n l, drop-cons l n 0 (omega arith), drop-cons l (suc n) 0 (omega arith), take-append-drop (high * 256 + low) tail) in
+    let cut : l ≡ take n l ++ (high ∷ low ∷ (take (high * 256 + low) tail ++ drop (high * 256 + low) tail))
+    = cc (take-append-drop n l, drop-cons l n 0 (omega arith), drop-cons l (suc n) 0 (omega arith), take-append-drop (high * 256 + low) tail) in
     record {
       serial = take n l;
       high = high;
@@ -212,7 +216,7 @@ measured-parts (n ∷ l) q =
       four = omega (arith, length-drop (high * 256 + low) tail);
     }
 
-pub unmeasured-wrong : (s : List ℕ) → (Parts s → ⊥) → payloadSays s ≡ Wrong 18
+unmeasured-wrong : (s : List ℕ) → (Parts s → ⊥) → payloadSays s ≡ Wrong 18
 unfolding payloadSays measured
 unmeasured-wrong s none = rw (ne-eqb (length s) (1 + serialLength s + 2 + blockLength s + 4) (λ q. none (measured-parts s q)))
 

@@ -30,7 +30,7 @@ use Rattle.promises.proofs.VendorPayload.{payload-rule}
 -- ---- one image
 
 -- it is read by what its pieces come to together, where there are any
-pub read-whole : (e : ℕ) (image buffer : List ℕ) (cs : List Content) (pieces : List (List ℕ)) → length buffer ≤ limit → Reads 4 e image cs → PiecesOf cs pieces → Some pieces →
+read-whole : (e : ℕ) (image buffer : List ℕ) (cs : List Content) (pieces : List (List ℕ)) → length buffer ≤ limit → Reads 4 e image cs → PiecesOf cs pieces → Some pieces →
     readVendor 4 e image buffer ≡ taking (payloadSays (whole pieces)) (whole pieces) buffer
 read-whole e image buffer cs pieces le r ps some = read-pieces e image buffer cs pieces le r ps ∙ take-some pieces buffer some
 
