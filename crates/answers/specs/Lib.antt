@@ -2,3 +2,4 @@ pub mod Whole
 pub mod Records
 pub mod Lent
 pub mod FromC
+pub mod Vendor

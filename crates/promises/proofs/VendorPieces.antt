@@ -48,7 +48,7 @@ pieces-of (c ∷ cs) = go (matches c) refl (pieces-of cs)
 abbrev after : Content → List ℕ
 after c = drop 5 (c .value)
 
-matching-pieces : {cs : List Content} {pieces : List (List ℕ)} → PiecesOf cs pieces → map after (matching cs) ≡ pieces
+pub matching-pieces : {cs : List Content} {pieces : List (List ℕ)} → PiecesOf cs pieces → map after (matching cs) ≡ pieces
 unfolding matching
 matching-pieces noEntry = refl
 matching-pieces (holds {c} {cs} {piece} {pieces} h ps) =

@@ -24,7 +24,7 @@ use Rattle.promises.proofs.FormatNumbers.{every}
 use Rattle.promises.proofs.Telling.{check-refused}
 use Rattle.promises.proofs.VendorRefused.{readNumbers, SaidNumber, said-number}
 use Rattle.promises.proofs.VendorAsked.{read-other, read-by}
-use Rattle.promises.proofs.VendorPieces.{pieces-of, take-some, read-pieces}
+use Rattle.promises.proofs.VendorPieces.{matching-pieces, pieces-of, take-some, read-pieces}
 use Rattle.promises.proofs.VendorPayload.{payload-rule}
 
 -- ---- one image
@@ -47,6 +47,7 @@ vendor-reads =
     record {
       refused = λ e image buffer le h. let x = check-refused 4 e image h in rw (read-by e image buffer le, x .1);
       pieces = pieces-of;
+      same = λ cs pieces others p q. sym (matching-pieces p) ∙ matching-pieces q;
       accepted = vendor-rule;
     }
 

@@ -3,12 +3,11 @@
 -- Assumes nothing.
 use Prim.Native.Nat.{ℕ, _+_, _*_, _≤_, _<_}
 use mathlib.Core.Path.{_≡_}
-use mathlib.Core.List.{List, [], _∷_, _++_, map}
+use mathlib.Core.List.{List, [], _∷_, _++_}
 use mathlib.Core.Logic.{_⊎_}
 use lib.ListN.{length, take, drop}
 use lib.IntN.{ℤ}
 use Rattle.layout.specs.declared.Format.the-variants.{Onie}
-use Rattle.layout.specs.declared.Part.{Part}
 use Rattle.layout.specs.Bytes.{part, partAt}
 use Rattle.layout.specs.Walk.{Content}
 use Rattle.layout.specs.Calls.{Told}
@@ -22,7 +21,7 @@ use Rattle.blocks.specs.Payload.{sum}
 use Rattle.blocks.specs.Vendor.{readVendor, toldVended, writeVendor}
 use Rattle.promises.specs.Words.{KnownEdition, Serves, Counts, Refuses, IsRefused, Reads, tellsCheck}
 use Rattle.promises.specs.Numbers.{Gives, imageNumbers}
-use Rattle.promises.specs.Payload.{Holds, PiecesOf, whole, Some, Parts, RightCheck, SaysOffset, Amplifier, SaysOffsets, SignedByte, SignedBytes}
+use Rattle.promises.specs.Payload.{PiecesOf, whole, Some, Parts, RightCheck, SaysOffset, Amplifier, SaysOffsets, SignedByte, SignedBytes}
 
 abbrev pub tellsVendor : ℕ → ℕ → List ℕ → List ℕ → Told
 tellsVendor f e image buffer = toldVended (readVendor f e image buffer .answer)
@@ -77,8 +76,9 @@ pub record VendorRule (e : ℕ) (image buffer : List ℕ) (cs : List Content) : 
 pub record VendorReads : Type 0 where
   -- an image that the check refuses is refused alike
   pub refused : (e : ℕ) (image buffer : List ℕ) → length buffer ≤ 65536 → IsRefused (tellsCheck 4 e image) → tellsVendor 4 e image buffer ≡ tellsCheck 4 e image
-  -- every list of entries has pieces
+  -- every list of entries has pieces, and no others
   pub pieces : (cs : List Content) → (pieces : List (List ℕ)) × PiecesOf cs pieces
+  pub same : (cs : List Content) (pieces others : List (List ℕ)) → PiecesOf cs pieces → PiecesOf cs others → pieces ≡ others
   pub accepted : (e : ℕ) (image buffer : List ℕ) (cs : List Content) → length buffer ≤ 65536 → Reads 4 e image cs → VendorRule e image buffer cs
 
 -- with room enough one payload reads the same in every accepted image, however cut and whatever stands between its pieces
