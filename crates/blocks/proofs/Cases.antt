@@ -60,6 +60,13 @@ varied = offsets (pos 1) (pos 127) (minus 128) (minus 127) (minus 2) (minus 1) (
 abbrev pub reversed : Offsets
 reversed = offsets (minus 100) (pos 24) (minus 1) (minus 2) (minus 127) (minus 128) (pos 127) (pos 1)
 
+-- the payload of no serial and the eight that differ, with this check
+abbrev pub shortWith : List ℕ → List ℕ
+shortWith check = hex "00 00 09 00 01 7F 80 81 FE FF 18 9C" ++ check
+
+abbrev pub short : List ℕ
+short = shortWith (hex "60 FF D2 4C")
+
 -- the payload of 003's example, the serial DQ000MPW and offsets that are all 0, with this check
 abbrev pub exampleWith : List ℕ → List ℕ
 exampleWith check = hex "08 44 51 30 30 30 4D 50 57 00 09 00 00 00 00 00 00 00 00 00" ++ check

@@ -10,7 +10,7 @@ use lib.ListN.{replicate}
 use Rattle.layout.specs.Walk.{Content}
 use Rattle.layout.proofs.Cases.{text, hex}
 use Rattle.blocks.specs.declared.Said.the-variants.{Says, Wrong}
-use Rattle.blocks.proofs.Cases.{minus, offsets, zeros, varied, reversed, exampleWith, example, value, blockSaid, entry, found}
+use Rattle.blocks.proofs.Cases.{offsets, zeros, varied, reversed, shortWith, exampleWith, example, value, blockSaid, entry, found}
 use Rattle.blocks.proofs.Cases.{Case, joins, payloads, makes, cuts, fits, sweeps, given, wanted}
 
 -- what an FDh says that holds this piece
@@ -121,31 +121,28 @@ cases =
     ∷ payloads (hex "00 00 FF" ++ long (hex "60 C9 BC 2D") 255 ++ hex "FF FF FF FF") (Wrong 20)
     ∷ payloads (hex "00 02 00" ++ long (hex "6F 44 88 32") 512 ++ hex "FF FF FF FF") (Wrong 20)
     -- ---- 19: each byte of the check
-    ∷ payloads (exampleWith (hex "03 60 51 4B")) (Wrong 19)
-    ∷ payloads (exampleWith (hex "82 60 51 4B")) (Wrong 19)
-    ∷ payloads (exampleWith (hex "02 61 51 4B")) (Wrong 19)
-    ∷ payloads (exampleWith (hex "02 E0 51 4B")) (Wrong 19)
-    ∷ payloads (exampleWith (hex "02 60 50 4B")) (Wrong 19)
-    ∷ payloads (exampleWith (hex "02 60 D1 4B")) (Wrong 19)
-    ∷ payloads (exampleWith (hex "02 60 51 4A")) (Wrong 19)
-    ∷ payloads (exampleWith (hex "02 60 51 CB")) (Wrong 19)
-    -- one that is low byte first, without the final change, all zeros, or over other bytes: one less at the end or at the front, the check too, the block alone
+    ∷ payloads (shortWith (hex "61 FF D2 4C")) (Wrong 19)
+    ∷ payloads (shortWith (hex "E0 FF D2 4C")) (Wrong 19)
+    ∷ payloads (shortWith (hex "60 FE D2 4C")) (Wrong 19)
+    ∷ payloads (shortWith (hex "60 7F D2 4C")) (Wrong 19)
+    ∷ payloads (shortWith (hex "60 FF D3 4C")) (Wrong 19)
+    ∷ payloads (shortWith (hex "60 FF 52 4C")) (Wrong 19)
+    ∷ payloads (shortWith (hex "60 FF D2 4D")) (Wrong 19)
+    ∷ payloads (shortWith (hex "60 FF D2 CC")) (Wrong 19)
+    -- one that is low byte first, without the final change, all zeros, or over other bytes: one less at the end or at the front, four zeros for the check too, the block alone, the serial alone
     ∷ payloads (exampleWith (hex "4B 51 60 02")) (Wrong 19)
     ∷ payloads (exampleWith (hex "FD 9F AE B4")) (Wrong 19)
-    ∷ payloads (exampleWith (hex "00 00 00 00")) (Wrong 19)
-    ∷ payloads (hex "08 44 51 30 30 30 4D 50 57 00 09 00 01 7F 80 81 FE FF 18 9C 85 BA DF 77") (Wrong 19)
-    ∷ payloads (hex "08 44 51 30 30 30 4D 50 57 00 09 00 01 7F 80 81 FE FF 18 9C AD 59 EA F2") (Wrong 19)
-    ∷ payloads (hex "08 44 51 30 30 30 4D 50 57 00 09 00 01 7F 80 81 FE FF 18 9C 69 2C BF D4") (Wrong 19)
-    ∷ payloads (hex "08 44 51 30 30 30 4D 50 57 00 09 00 01 7F 80 81 FE FF 18 9C 2C CB E3 BE") (Wrong 19)
-    ∷ payloads (hex "08 44 51 30 30 30 4D 50 57 00 09 00 01 7F 80 81 FE FF 18 9C 01 36 2B 47") (Wrong 19)
-    ∷ payloads (hex "08 44 51 30 30 30 4D 50 57 00 09 00 01 7F 80 81 FE FF 18 9C 71 A9 40 0F") (Wrong 19)
-    ∷ payloads (hex "08 44 51 30 30 30 4D 50 57 00 09 00 01 7F 80 81 FE FF 18 9C 2F D1 31 67") (Wrong 19)
+    ∷ payloads (shortWith (hex "00 00 00 00")) (Wrong 19)
+    ∷ payloads (hex "01 41 00 09 00 01 7F 80 81 FE FF 18 9C DC 07 14 E6") (Wrong 19)
+    ∷ payloads (hex "01 41 00 09 00 01 7F 80 81 FE FF 18 9C CB 39 29 D3") (Wrong 19)
+    ∷ payloads (hex "01 41 00 09 00 01 7F 80 81 FE FF 18 9C 82 F9 53 2D") (Wrong 19)
+    ∷ payloads (hex "01 41 00 09 00 01 7F 80 81 FE FF 18 9C 01 36 2B 47") (Wrong 19)
+    ∷ payloads (hex "01 41 00 09 00 01 7F 80 81 FE FF 18 9C 59 19 52 B8") (Wrong 19)
     -- one byte of the rest: of the serial, the version and an offset
-    ∷ payloads (hex "08 45 51 30 30 30 4D 50 57 00 09 00 00 00 00 00 00 00 00 00 02 60 51 4B") (Wrong 19)
-    ∷ payloads (hex "08 44 51 30 30 30 4D 50 56 00 09 00 00 00 00 00 00 00 00 00 02 60 51 4B") (Wrong 19)
-    ∷ payloads (hex "08 44 51 30 30 30 4D 50 57 00 09 01 00 00 00 00 00 00 00 00 02 60 51 4B") (Wrong 19)
-    ∷ payloads (hex "08 44 51 30 30 30 4D 50 57 00 09 00 01 00 00 00 00 00 00 00 02 60 51 4B") (Wrong 19)
-    ∷ payloads (hex "08 44 51 30 30 30 4D 50 57 00 09 00 00 00 00 00 00 00 00 01 02 60 51 4B") (Wrong 19)
+    ∷ payloads (hex "01 40 00 09 00 01 7F 80 81 FE FF 18 9C 62 0E 70 BB") (Wrong 19)
+    ∷ payloads (hex "01 41 00 09 01 01 7F 80 81 FE FF 18 9C 62 0E 70 BB") (Wrong 19)
+    ∷ payloads (hex "01 41 00 09 00 00 7F 80 81 FE FF 18 9C 62 0E 70 BB") (Wrong 19)
+    ∷ payloads (hex "01 41 00 09 00 01 7F 80 81 FE FF 18 9D 62 0E 70 BB") (Wrong 19)
     -- ---- 20: the version, with a right check; a block of 8, 10, 0 and 1 bytes
     ∷ payloads (hex "00 00 09 01 00 00 00 00 00 00 00 00 90 BB F9 E6") (Wrong 20)
     ∷ payloads (hex "00 00 09 FF 00 00 00 00 00 00 00 00 CE 8F E1 EE") (Wrong 20)
@@ -155,8 +152,6 @@ cases =
     ∷ payloads (hex "00 00 0A 00 00 00 00 00 00 00 00 00 00 ED DB 1E 06") (Wrong 20)
     ∷ payloads (hex "00 00 00 FF 41 D9 12") (Wrong 20)
     ∷ payloads (hex "00 00 01 00 38 5F EE 5D") (Wrong 20)
-    ∷ payloads (hex "00 00 07 00 00 00 00 00 00 00 E9 4F 61 6F") (Wrong 20)
-    ∷ payloads (hex "00 00 0B 00 00 00 00 00 00 00 00 00 00 00 A0 29 DD C9") (Wrong 20)
     ∷ payloads (hex "00 00 12 00 00 00 00 00 00 00 00 00 00 00 00 00 00 00 00 00 00 26 F2 F8 70") (Wrong 20)
     ∷ payloads (hex "00 00 08 01 00 00 00 00 00 00 00 1C F5 13 6A") (Wrong 20)
     ∷ payloads (hex "02 00 00 00 08 00 00 00 00 00 00 00 00 D4 F0 51 D1") (Wrong 20)

@@ -9,7 +9,7 @@ use Rattle.layout.specs.declared.Made.the-variants.{Wrote, Unwritten}
 use Rattle.layout.specs.Bytes.{refusal}
 use Rattle.layout.proofs.Cases.{text, hex, run}
 use Rattle.blocks.specs.Vendor.{piecesIn}
-use Rattle.blocks.proofs.Cases.{offsets, zeros, varied, reversed, example, value, writing}
+use Rattle.blocks.proofs.Cases.{offsets, zeros, varied, reversed, short, example, value, writing}
 use Rattle.blocks.proofs.Cases.{Case, lies, numbers, sweeps, writes, unwrites, given, wanted}
 
 abbrev pub cases : List Case
@@ -36,11 +36,11 @@ cases =
     ∷ numbers (writing 4 3 (text "DQ000MPW") (piecesIn (hex "FF FF FF FF 19 00 00 00")) 40) 18
     -- ---- a serial, offsets and pieces: a piece of no bytes is the prefix alone
     ∷ writes 4 3 [] zeros (16 ∷ []) (replicate 21 7) (Wrote 21) (value (hex "00 00 09 00 00 00 00 00 00 00 00 00 87 C0 ED A5"))
-    ∷ writes 4 3 [] varied (16 ∷ []) (replicate 21 7) (Wrote 21) (value (hex "00 00 09 00 01 7F 80 81 FE FF 18 9C 60 FF D2 4C"))
+    ∷ writes 4 3 [] varied (16 ∷ []) (replicate 21 7) (Wrote 21) (value short)
     ∷ writes 4 3 (text "A") reversed (16 ∷ 1 ∷ []) (replicate 27 7) (Wrote 27) (value (hex "01 41 00 09 00 9C 18 FF FE 81 80 7F 01 D1 9F E6") ++ value (hex "C4"))
     ∷ writes 4 3 (hex "00 FF 7F") (offsets (pos 1) (pos 2) (pos 3) (pos 4) (pos 5) (pos 6) (pos 7) (pos 8)) (6 ∷ 9 ∷ 4 ∷ []) (replicate 34 7) (Wrote 34) (value (hex "03 00 FF 7F 00 09") ++ value (hex "00 01 02 03 04 05 06 07 08") ++ value (hex "0B 63 87 DB"))
-    ∷ writes 4 3 [] varied (0 ∷ 16 ∷ 0 ∷ []) (replicate 31 7) (Wrote 31) (value [] ++ value (hex "00 00 09 00 01 7F 80 81 FE FF 18 9C 60 FF D2 4C") ++ value [])
-    ∷ writes 4 3 [] varied (1 ∷ 1 ∷ 1 ∷ 1 ∷ 1 ∷ 1 ∷ 1 ∷ 1 ∷ 1 ∷ 1 ∷ 1 ∷ 1 ∷ 1 ∷ 1 ∷ 1 ∷ 1 ∷ []) (replicate 96 7) (Wrote 96) (value (hex "00") ++ value (hex "00") ++ value (hex "09") ++ value (hex "00") ++ value (hex "01") ++ value (hex "7F") ++ value (hex "80") ++ value (hex "81") ++ value (hex "FE") ++ value (hex "FF") ++ value (hex "18") ++ value (hex "9C") ++ value (hex "60") ++ value (hex "FF") ++ value (hex "D2") ++ value (hex "4C"))
+    ∷ writes 4 3 [] varied (0 ∷ 16 ∷ 0 ∷ []) (replicate 31 7) (Wrote 31) (value [] ++ value short ++ value [])
+    ∷ writes 4 3 [] varied (2 ∷ 2 ∷ 2 ∷ 2 ∷ 2 ∷ 2 ∷ 2 ∷ 2 ∷ []) (replicate 56 7) (Wrote 56) (value (hex "00 00") ++ value (hex "09 00") ++ value (hex "01 7F") ++ value (hex "80 81") ++ value (hex "FE FF") ++ value (hex "18 9C") ++ value (hex "60 FF") ++ value (hex "D2 4C"))
     ∷ writes 4 3 (text "DQ000MPW") varied (1 ∷ 23 ∷ []) (replicate 34 7) (Wrote 34) (value (hex "08") ++ value (hex "44 51 30 30 30 4D 50 57 00 09 00 01 7F 80 81 FE FF 18 9C E5 5F 6E A2"))
     -- ---- the output: just enough, longer (the bytes past the values stay), one short, none
     ∷ writes 4 3 (text "DQ000MPW") zeros (24 ∷ []) (replicate 29 7) (Wrote 29) (value example)
@@ -119,10 +119,7 @@ cases =
     ∷ numbers (writing 4 9 (text "DQ000MPW") [] 65537) 1
     ∷ numbers (writing 4 2 (text "DQ000MPW") [] 65537) 16
     -- ---- 2: an output of 65,537 bytes, before 18
-    ∷ unwrites 4 3 (text "DQ000MPW") zeros (24 ∷ []) 65537 (refusal 2 0)
-    ∷ numbers (writing 4 3 (text "DQ000MPW") [] 65537) 2
-    ∷ numbers (writing 4 3 (replicate 256 0x41) (251 ∷ []) 65537) 2
-    ∷ numbers (writing 4 3 (text "DQ000MPW") (24 ∷ []) 65536) 0
+    ∷ unwrites 4 3 (text "DQ000MPW") zeros [] 65537 (refusal 2 0)
     ∷ numbers (writing 4 3 (text "DQ000MPW") [] 65536) 18
     ∷ []
 
