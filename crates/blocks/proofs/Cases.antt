@@ -16,7 +16,7 @@ use Rattle.layout.specs.Shape.{next, codedHead}
 use Rattle.layout.specs.Onie.{onie, onieOpened, onieFilled, onieCheck, formed, onieRule}
 use Rattle.layout.specs.Editions.{chosen, sinceIn, names}
 use Rattle.layout.specs.Walk.{Content, content, walks, walk}
-use Rattle.layout.specs.Read.{sealed, seenBefore, readerRule, fault, judge, complete, readAs}
+use Rattle.layout.specs.Read.{sealed, seenBefore, readerRule, fault, judge, complete, readAs, readImage}
 use Rattle.layout.specs.Calls.{Told}
 use Rattle.layout.specs.Write.{items, Outcome}
 use Rattle.layout.proofs.Cases.{text, hex, run, onieOf, those}
@@ -28,7 +28,7 @@ use Rattle.blocks.specs.declared.Vended.{Vended}
 use Rattle.blocks.specs.declared.Vended.the-variants.{Tells, Unread}
 use Rattle.blocks.specs.Offset.{signed, signedByte, offsetsIn, offsetBytes}
 use Rattle.blocks.specs.Payload.{matches, matching, joined, measured, checked, amplifier, payloadSays, payloadOf, cutInto, writable}
-use Rattle.blocks.specs.Vendor.{Taking, readVendor, piecesIn, writeVendor}
+use Rattle.blocks.specs.Vendor.{asked, Taking, readVendor, piecesIn, writeVendor}
 
 -- ---- values, entries and answers, in short
 
@@ -168,8 +168,8 @@ pub data Answer : Type 0 where
 unfoldable pub given : Case → Answer
 unfolding check32Of mirror checkOf byteIn singleBit all oneOf sameBytes part next codedHead
     onie onieOpened onieFilled onieCheck formed onieRule
-    chosen sinceIn names content walks walk sealed seenBefore readerRule fault judge complete readAs items
-    matches matching joined measured checked amplifier payloadSays payloadOf cutInto writable readVendor piecesIn writeVendor
+    chosen sinceIn names content walks walk sealed seenBefore readerRule fault judge complete readAs readImage items
+    matches matching joined measured checked amplifier payloadSays payloadOf cutInto writable asked readVendor piecesIn writeVendor
 given (signs s answer) = signed-bytes (map signed s) (map signedByte answer)
 given (eights s answer) = eight (offsetsIn s) (offsetBytes answer)
 given (joins cs n s) = held (length (matching cs)) (joined (matching cs))
