@@ -1,4 +1,6 @@
-// Runs the cases that 01 marks Run, 000's full example, 002's, a write, 02's name with a dot, and ONIE images: a line for each, "ok" or "WRONG".
+// Runs the cases that 01 marks Run, 000's full example, 002's, a write, 02's name with a dot, ONIE images, and 003's payload in both cuts: a line for each, "ok" or "WRONG".
+use blocks::Block;
+use blocks::Vended;
 use layout::Checked;
 use layout::Entry;
 use layout::Lookup;
@@ -373,6 +375,95 @@ fn run_onie(empty: &[u8], cut: &[u8], switch: &[u8], fields: &[u8]) {
     say(b"serial number written", is_serial_written(fields));
 }
 
+// 003's payload, with one byte of the buffer left as it was.
+fn is_payload(payload: &[u8]) -> bool {
+    parts::same_bytes(
+        payload,
+        b"\x08DQ000MPW\x00\x09\x00\x00\x00\x00\x00\x00\x00\x00\x00\x02`QK\xAA",
+    )
+}
+
+fn is_part(x: Part, place: usize, len: usize) -> bool {
+    let p = x.place;
+    (p.0 == place) & (x.len == len)
+}
+
+// What 003's payload says: a serial of 8 bytes at 1, a block of 9 at 11, and no offset but 0.
+fn is_block(b: Block) -> bool {
+    let serial = b.serial;
+    let block = b.block;
+    let offsets = b.offsets;
+    let bytes = offsets::offset_bytes(offsets);
+    is_part(serial, 1, 8)
+        & is_part(block, 11, 9)
+        & parts::same_bytes(&bytes, b"\x00\x00\x00\x00\x00\x00\x00\x00")
+}
+
+// Whether a read gives 003's payload, in 30 bytes of buffer.
+fn is_amplifier(image: &[u8]) -> bool {
+    let mut payload = [0xAAu8; 30];
+    let v = vendor::read_vendor(&mut payload, 4, 3, image);
+    match v {
+        Vended::Tells(n, b) => (n == 29) & is_block(b) & is_payload(&payload),
+        Vended::Unread(_) => false,
+    }
+}
+
+// Whether a read is refused so, and leaves a buffer of two bytes as it was.
+fn is_no_amplifier(edition: u32, image: &[u8], number: u32) -> bool {
+    let mut payload = [0xAAu8; 2];
+    let v = vendor::read_vendor(&mut payload, 4, edition, image);
+    match v {
+        Vended::Tells(_, _) => false,
+        Vended::Unread(r) => is_refusal(r, number, 0) & parts::same_bytes(&payload, b"\xAA\xAA"),
+    }
+}
+
+// 003's values, in one piece and in two, in 40 bytes of output.
+fn is_vendor_written(pieces: &[u8], count: usize, values: &[u8]) -> bool {
+    let mut out = [0xAAu8; 40];
+    let zeros = offsets::offsets_in(b"\x00\x00\x00\x00\x00\x00\x00\x00");
+    let m = vendor::write_vendor(&mut out, 4, 3, b"DQ000MPW", zeros, pieces);
+    is_made(m, count) & parts::same_bytes(&out, values)
+}
+
+fn run_amplifiers(one: &[u8], two: &[u8], wrong: &[u8], empty: &[u8]) {
+    say(b"amplifier in one piece", is_amplifier(one));
+    say(b"amplifier in two pieces", is_amplifier(two));
+    say(
+        b"amplifier by edition 2, refused",
+        is_no_amplifier(2, one, 16),
+    );
+    say(
+        b"amplifier without a payload, refused",
+        is_no_amplifier(3, empty, 17),
+    );
+    say(
+        b"amplifier with a wrong check, refused",
+        is_no_amplifier(3, wrong, 19),
+    );
+    say(
+        b"amplifier in two bytes, refused",
+        is_no_amplifier(3, two, 12),
+    );
+    say(
+        b"payload written in one piece",
+        is_vendor_written(
+            b"\x1D\x00\x00\x00",
+            34,
+            b"\x00\x00\x1Fy\x00\x08DQ000MPW\x00\x09\x00\x00\x00\x00\x00\x00\x00\x00\x00\x02`QK\xAA\xAA\xAA\xAA\xAA\xAA",
+        ),
+    );
+    say(
+        b"payload written in two pieces",
+        is_vendor_written(
+            b"\x1C\x00\x00\x00\x01\x00\x00\x00",
+            39,
+            b"\x00\x00\x1Fy\x00\x08DQ000MPW\x00\x09\x00\x00\x00\x00\x00\x00\x00\x00\x00\x02`QK\x00\x00\x1Fy\x00\xAA",
+        ),
+    );
+}
+
 fn run_edits(image: &[u8]) {
     say(b"sku edited in ten bytes", is_edited(image));
     say(b"sku edited in seven bytes, refused", is_not_edited(image));
@@ -418,6 +509,12 @@ fn main() {
         b"TlvInfo\x00\x01\x00\x06\xFE\x04\xD4C\x1C",
         b"TlvInfo\x00\x01\x00%!\x03SW1$\x06\x00\x11\x223DU*\x02\x00\x08\xFD\x05\x00\x00\x1Fy\x00\xFD\x05\x00\x00\x1Fy\x01\xFE\x04cm\x83\xB7",
         b"\x23\x00\x00\x00\x00\x00\x00\x00\x00\x00\x00\x00\x00\x00\x00\x00\x02\x00\x00\x00",
+    );
+    run_amplifiers(
+        b"TlvInfo\x00\x01\x00%\xFD\x1D\x00\x00\x1Fy\x00\x08DQ000MPW\x00\x09\x00\x00\x00\x00\x00\x00\x00\x00\x00\x02`QK\xFE\x04\xC4\xCA\xCB\xB7",
+        b"TlvInfo\x00\x01\x00,\xFD\x1D\x00\x00\x1Fy\x00\x08DQ000MPW\x00\x09\x00\x00\x00\x00\x00\x00\x00\x00\x00\x02`QK\xFD\x05\x00\x00\x1Fy\x00\xFE\x04\x10\x86\x1E\x95",
+        b"TlvInfo\x00\x01\x00&\xFD\x1E\x00\x00\x1Fy\x00\x08DQ000MPW\x00\x09\x00\x00\x00\x00\x00\x00\x00\x00\x00\x02`QKL\xFE\x04x\xE3k5",
+        b"TlvInfo\x00\x01\x00\x06\xFE\x04\xD4C\x1C\x18",
     );
     run_pool(b"\x56\x02\x0E\x10\x00\x01\x06AB\xC3D\xC5F\x2F");
 }
