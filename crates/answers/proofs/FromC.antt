@@ -5,10 +5,10 @@ use mathlib.Core.Path.{_≡_, refl, ap, sym, _∙_}
 use mathlib.Core.List.{List, [], _∷_, _++_, append-assoc, map}
 use mathlib.Core.Bool.{Bool, true, false}
 use native.Mathlib.Omega.{arith}
-use lib.ListN.{length, getD, take, replicate, length-append, length-replicate, List·getD-append}
+use lib.ListN.{length, getD, take, replicate, length-append, length-replicate}
 use lib.Seq.{drop-at, getD-take, getD-append-add}
 use lib.Dec.{leb, eqb}
-use borrow.Author.Tests.{eqb-true, le-ltb, lt-ltb}
+use borrow.Author.Tests.{eqb-true}
 use Rattle.layout.specs.declared.Format.{Format}
 use Rattle.layout.specs.declared.Entry.{Entry}
 use Rattle.layout.specs.declared.Field.{Field}
@@ -24,11 +24,13 @@ use Rattle.layout.specs.declared.Lookup.the-variants.{Found, Missing}
 use Rattle.layout.specs.Bytes.{if, between, all, oneOf, part, partAt}
 use Rattle.layout.specs.Walk.{Content}
 use Rattle.layout.specs.Calls.{Told, toldRefusal, toldChecked, toldLookup, toldReading, checkImage, entryAt, moved, stepFrom}
-use Rattle.layout.specs.Write.{word, fieldAt, items, fieldsIn, writeImage, toldMade}
+use Rattle.layout.specs.Write.{word, fieldAt, items, itemsIn, fieldsIn, writeImage, toldMade}
 use Rattle.layout.specs.Edit.{editEntry}
 use Rattle.records.specs.Packed.{packed}
 use Rattle.records.specs.Words.{wordsBytes, readingWords, recordWords}
 use Rattle.records.specs.Exports.{recorded, entryCall, listCall, walkFormat, walkEdition, walkEntry, stepCall, checkCall, writeCall, editCall}
+use Rattle.records.proofs.Words.{length-words}
+use Rattle.fields.proofs.Lists.{items-none, items-more}
 use Rattle.laws.specs.Contents.{said, replaced}
 use Rattle.laws.specs.Grammar.{Each, none, also as andAlso}
 use Rattle.promises.specs.Words.{Serves, Counts, Item, here, there, tellsCheck, tellsWrite, tellsEdit}
@@ -50,7 +52,7 @@ use Rattle.promises.proofs.OlderReads.{older-reads}
 use Rattle.promises.proofs.OlderEdits.{older-edits}
 use Rattle.answers.specs.Whole.{numberOf, countOf}
 use Rattle.answers.specs.FromC.{Bytes, OneOf, NumbersFromC, FieldsFromC, fieldWords, fieldsBytes, recordWord, recordSays, KindFromC, AcceptedFromC, WrittenFromC, SameRecord, OlderFromC, FromC}
-use Rattle.answers.proofs.Records.{words-back}
+use Rattle.answers.proofs.Records.{words-before}
 use Rattle.answers.proofs.Lent.{packed-taken, list-lent, stepped-recorded}
 use Rattle.answers.proofs.Packing.{whole-told}
 use Rattle.answers.proofs.Whole.{whole-reads}
@@ -68,7 +70,7 @@ told-number t lt = go (eqb (t .number) 0) refl
     go true e = let z = eqb-true (t .number) 0 e in rw e (omega arith)
     go false e = rw e (omega arith)
 
-gives-one : (numbers : List ℕ) (t : Told) → all (between 1 16) numbers ≡ true → Gives numbers t → OneOf numbers (packed t)
+pub gives-one : (numbers : List ℕ) (t : Told) → all (between 1 20) numbers ≡ true → Gives numbers t → OneOf numbers (packed t)
 unfolding oneOf
 gives-one numbers t table (taken {n} {x} {es}) = rw (packed-taken t refl)
 gives-one numbers t table (refused {n} {p} h) =
@@ -119,47 +121,45 @@ numbers-from-c =
       edited = λ f e img n v out. gives-one (13 ∷ 14 ∷ 12 ∷ imageNumbers) _ refl (call-numbers .edited f e img n v out);
     }
 
--- ---- fields
+-- ---- items in lent bytes
 
-length-fields : (x : Field) → length (wordsBytes (fieldWords x)) ≡ 20
-unfolding wordsBytes
-length-fields x = refl
+-- items that are laid out one after another, each in so many bytes that read back, are read as they are; a last one that is cut short counts as none
+module _ {A : Type 0} (P : A → Type 0) (size : ℕ) (read : List ℕ → A) (lay : A → List ℕ) (lays : List A → List ℕ) (nothing : lays [] ≡ [])
+    (more : (x : A) (xs : List A) → lays (x ∷ xs) ≡ lay x ++ lays xs) (some : 0 < size) (long : (x : A) → length (lay x) ≡ size)
+    (back : (x : A) (t : List ℕ) → P x → read (lay x ++ t) ≡ x) where
+  laid : (x : A) (xs : List A) (cut : List ℕ) → lays (x ∷ xs) ++ cut ≡ lay x ++ (lays xs ++ cut)
+  laid x xs cut = ap (λ (s : List ℕ). s ++ cut) (more x xs) ∙ append-assoc (lay x) (lays xs) cut
 
--- a word of the bytes before others
-word-before : (s t : List ℕ) (a : ℕ) → a + 4 ≤ length s → word a (s ++ t) ≡ word a s
-word-before s t a le =
-    omega (arith, List·getD-append s t 0 a (omega arith), List·getD-append s t 0 (a + 1) (omega arith), List·getD-append s t 0 (a + 2) (omega arith), List·getD-append s t 0 (a + 3) (omega arith))
+  laid-long : (x : A) (xs : List A) (cut : List ℕ) → length (lays (x ∷ xs) ++ cut) ≡ size + length (lays xs ++ cut)
+  laid-long x xs cut = ap length (laid x xs cut) ∙ length-append (lay x) (lays xs ++ cut) ∙ ap (λ (k : ℕ). k + length (lays xs ++ cut)) (long x)
+
+  items-back : (n : ℕ) (xs : List A) (cut : List ℕ) → Each P xs → length cut < size → length (lays xs ++ cut) ≤ n → items size read n (lays xs ++ cut) ≡ xs
+  items-back n [] cut none lt le = rw nothing (items-none size read n cut lt)
+  items-back zero (x ∷ xs) cut (andAlso p ps) lt le = absurd (omega (arith, laid-long x xs cut))
+  items-back (suc n) (x ∷ xs) cut (andAlso p ps) lt le =
+      let rest : List ℕ = lays xs ++ cut in
+      let q = laid-long x xs cut in
+      items-more size read n (lays (x ∷ xs) ++ cut) (omega arith)
+      ∙ rw (laid x xs cut, back x rest p, drop-at (lay x) rest size (long x)) (ap (λ (ys : List A). x ∷ ys) (items-back n xs cut ps lt (omega arith)))
+
+  pub items-in-back : (xs : List A) (cut : List ℕ) → Each P xs → length cut < size → itemsIn size read (lays xs ++ cut) ≡ xs
+  items-in-back xs cut ps lt = items-back (length (lays xs ++ cut)) xs cut ps lt (omega arith)
 
 -- the five words of a field are read back
 field-back : (x : Field) (t : List ℕ) → Each (λ w. w < 4294967296) (fieldWords x) → fieldAt (wordsBytes (fieldWords x) ++ t) ≡ x
 field-back x t fits =
-    let s : List ℕ = wordsBytes (fieldWords x) in
-    let back : (k : ℕ) → k < 5 → word (k * 4) (s ++ t) ≡ getD (fieldWords x) k 0
-    = (λ k lt. word-before s t (k * 4) (omega (arith, length-fields x)) ∙ words-back (fieldWords x) k fits (omega arith)) in
+    let back : (k : ℕ) → k < 5 → word (k * 4) (wordsBytes (fieldWords x) ++ t) ≡ getD (fieldWords x) k 0 = (λ k lt. words-before (fieldWords x) t k fits (omega arith)) in
     rw (back 0 (omega arith), back 1 (omega arith), back 2 (omega arith), back 3 (omega arith), back 4 (omega arith))
-
-fields-back : (n : ℕ) (xs : List Field) (cut : List ℕ) → Each (λ x. Each (λ w. w < 4294967296) (fieldWords x)) xs → length cut < 20 → length (fieldsBytes xs ++ cut) ≤ n → items 20 fieldAt n (fieldsBytes xs ++ cut) ≡ xs
-unfolding items
-fields-back zero [] cut none lt le = refl
-fields-back (suc n) [] cut none lt le = rw (lt-ltb (length cut) 20 lt)
-fields-back zero (x ∷ xs) cut (andAlso p ps) lt le =
-    absurd (omega (arith, length-fields x, length-append (wordsBytes (fieldWords x)) (fieldsBytes xs), length-append (wordsBytes (fieldWords x) ++ fieldsBytes xs) cut))
-fields-back (suc n) (x ∷ xs) cut (andAlso p ps) lt le =
-    let s : List ℕ = wordsBytes (fieldWords x) in
-    let rest : List ℕ = fieldsBytes xs ++ cut in
-    let whole : (s ++ fieldsBytes xs) ++ cut ≡ s ++ rest = append-assoc s (fieldsBytes xs) cut in
-    let long : length (s ++ rest) ≡ 20 + length rest = length-append s rest ∙ ap (λ (k : ℕ). k + length rest) (length-fields x) in
-    let fits : length (s ++ rest) ≤ suc n = rw whole at le in
-    rw (whole, le-ltb (length (s ++ rest)) 20 (omega arith), field-back x rest p, drop-at s rest 20 (length-fields x))
-    (ap (λ (ys : List Field). x ∷ ys) (fields-back n xs cut ps lt (omega arith)))
 
 pub fields-from-c : FieldsFromC
 unfolding fieldsIn
-fields-from-c xs cut fits lt = fields-back (length (fieldsBytes xs ++ cut)) xs cut fits lt (omega arith)
+fields-from-c =
+    items-in-back (λ x. Each (λ w. w < 4294967296) (fieldWords x)) 20 fieldAt (λ x. wordsBytes (fieldWords x)) fieldsBytes refl (λ x xs. refl) (omega arith)
+    (λ x. length-words (fieldWords x)) field-back
 
 -- ---- what C sees taken is taken
 
-gives-zero : (numbers : List ℕ) (t : Told) → all (between 1 16) numbers ≡ true → Gives numbers t → numberOf (packed t) ≡ 0 → t .number ≡ 0
+gives-zero : (numbers : List ℕ) (t : Told) → all (between 1 20) numbers ≡ true → Gives numbers t → numberOf (packed t) ≡ 0 → t .number ≡ 0
 gives-zero numbers t table taken z = refl
 gives-zero numbers t table (refused {n} {p} h) z = let small = tabled numbers n table h in sym (told-number t (omega arith)) ∙ z
 

@@ -5,3 +5,4 @@ pub mod Records
 pub mod Lent
 pub mod ReadBack
 pub mod FromC
+pub mod Vendor

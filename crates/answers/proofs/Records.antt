@@ -1,11 +1,11 @@
 -- Records in lent bytes lose nothing.
 -- Assumes nothing.
-use Prim.Native.Nat.{ℕ, zero, suc, _+_, _*_, _/_, _%_, _<_}
+use Prim.Native.Nat.{ℕ, zero, suc, _+_, _*_, _/_, _%_, _≤_, _<_}
 use mathlib.Core.Path.{_≡_, refl, _∙_}
 use mathlib.Core.List.{List, [], _∷_, _++_}
 use mathlib.Core.Bool.{Bool, false}
 use native.Mathlib.Omega.{arith}
-use lib.ListN.{length, getD, replicate}
+use lib.ListN.{length, getD, replicate, List·getD-append}
 use lib.Seq.{getD-append-add}
 use Rattle.layout.specs.declared.Format.{Format}
 use Rattle.layout.specs.declared.Format.the-variants.{Fboss, Vpd, Tiny, Onie}
@@ -29,6 +29,7 @@ use Rattle.laws.proofs.Passes.{raw-code}
 use Rattle.laws.proofs.Walking.{Frames}
 use Rattle.laws.proofs.Calls.{accepted-reading}
 use Rattle.records.specs.Words.{wordBytes, wordsBytes, readingWords, recordWords, recordBytes}
+use Rattle.records.proofs.Words.{length-words}
 use Rattle.promises.proofs.Entries.{Inside, held}
 use Rattle.answers.specs.Records.{WholeRecord, WholeRecords}
 use Rattle.answers.proofs.Readings.{Bytes, Words, each-take, each-part, byte-of, then, reading-words}
@@ -51,13 +52,22 @@ word-past front a t = omega (arith, getD-append-add front t a 0, byte 1, byte 2,
     byte : (j : ℕ) → getD (front ++ t) (length front + a + j) 0 ≡ getD t (a + j) 0
     byte j = let q : length front + a + j ≡ length front + (a + j) = omega arith in rw q (getD-append-add front t (a + j) 0)
 
-pub words-back : (ws : List ℕ) (k : ℕ) → Words ws → k < length ws → word (k * 4) (wordsBytes ws) ≡ getD ws k 0
+words-back : (ws : List ℕ) (k : ℕ) → Words ws → k < length ws → word (k * 4) (wordsBytes ws) ≡ getD ws k 0
 unfolding wordsBytes
 words-back [] k none lt = absurd (omega arith)
 words-back (w ∷ ws) zero (also p ps) lt = word-back w (wordsBytes ws) p
 words-back (w ∷ ws) (suc k) (also p ps) lt =
     let q : suc k * 4 ≡ 4 + k * 4 = omega arith in
     rw q (word-past (wordBytes w) (k * 4) (wordsBytes ws) ∙ words-back ws k ps (omega arith))
+
+-- a word of the bytes before others
+word-before : (s t : List ℕ) (a : ℕ) → a + 4 ≤ length s → word a (s ++ t) ≡ word a s
+word-before s t a le =
+    omega (arith, List·getD-append s t 0 a (omega arith), List·getD-append s t 0 (a + 1) (omega arith), List·getD-append s t 0 (a + 2) (omega arith), List·getD-append s t 0 (a + 3) (omega arith))
+
+-- words are read back, whatever follows them
+pub words-before : (ws t : List ℕ) (k : ℕ) → Words ws → k < length ws → word (k * 4) (wordsBytes ws ++ t) ≡ getD ws k 0
+words-before ws t k fits lt = word-before (wordsBytes ws) t (k * 4) (omega (arith, length-words ws)) ∙ words-back ws k fits lt
 
 -- ---- records
 

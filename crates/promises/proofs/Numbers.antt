@@ -43,7 +43,7 @@ located-gives : (number : ℕ) (x : Located) → LocatedIn number x → Gives (n
 located-gives number (At x) l = taken
 located-gives number (Nowhere r) l = refusedBy (l .number)
 
-made-gives : (numbers : List ℕ) (most : ℕ) (x : Made) → MadeLow numbers most x → Gives numbers (toldMade x)
+pub made-gives : (numbers : List ℕ) (most : ℕ) (x : Made) → MadeLow numbers most x → Gives numbers (toldMade x)
 made-gives numbers most (Wrote n) l = taken
 made-gives numbers most (Unwritten r) l = refusedBy (l .number)
 

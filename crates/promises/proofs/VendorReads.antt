@@ -22,7 +22,7 @@ use Rattle.promises.specs.Payload.{PiecesOf, whole, Some}
 use Rattle.promises.specs.Vendor.{VendorRule, VendorReads, SamePayload}
 use Rattle.promises.proofs.FormatNumbers.{every}
 use Rattle.promises.proofs.Telling.{check-refused}
-use Rattle.promises.proofs.VendorRefused.{readNumbers, SaidNumber, said-number}
+use Rattle.promises.proofs.VendorRefused.{readNumbers, SaidLow, said-low}
 use Rattle.promises.proofs.VendorAsked.{read-other, read-by}
 use Rattle.promises.proofs.VendorPieces.{matching-pieces, pieces-of, take-some, read-pieces}
 use Rattle.promises.proofs.VendorPayload.{payload-rule}
@@ -71,9 +71,9 @@ room-alike : (b : Bool) (s buffer₁ buffer₂ : List ℕ) → length s ≤ leng
     (wholeTaken b s buffer₁ .answer ≡ wholeTaken b s buffer₂ .answer)
     × (toldVended (wholeTaken b s buffer₁ .answer) .number ≡ 0 → take (length s) (wholeTaken b s buffer₁ .memory) ≡ take (length s) (wholeTaken b s buffer₂ .memory))
 unfolding all
-room-alike true s buffer₁ buffer₂ le₁ le₂ = go (payloadSays s) (said-number s)
+room-alike true s buffer₁ buffer₂ le₁ le₂ = go (payloadSays s) (said-low s)
   where
-    go : (x : Said) → SaidNumber x → (taking x s buffer₁ .answer ≡ taking x s buffer₂ .answer)
+    go : (x : Said) → SaidLow (length s) x → (taking x s buffer₁ .answer ≡ taking x s buffer₂ .answer)
         × (toldVended (taking x s buffer₁ .answer) .number ≡ 0 → take (length s) (taking x s buffer₁ .memory) ≡ take (length s) (taking x s buffer₂ .memory))
     go (Says b) l =
         rw (le-leb (length s) (length buffer₁) le₁, le-leb (length s) (length buffer₂) le₂)

@@ -36,8 +36,9 @@ says b byte = go (half b)
         let back : 256 - suc (255 - b) ≡ b = omega arith in
         inr (le, byte, ap (λ (z : ℤ). z +ℤ pos 256) (high-signed b le) ∙ rw (le-ltb 256 (suc (255 - b)) (omega arith), back))
 
-small : (b : ℕ) → b < 256 → SignedByte (signed b)
-small b byte = go (half b)
+-- of any number, though only a byte says one
+pub small : (b : ℕ) → SignedByte (signed b)
+small b = go (half b)
   where
     go : Half b → SignedByte (signed b)
     go (low lt) = rw (low-signed b lt) lt
@@ -74,4 +75,4 @@ pub byte-says : (z : ℤ) → SignedByte z → SaysOffset (signedByte z) z
 byte-says z h = rw (forth z h) at (says (signedByte z) (byte z h))
 
 pub signs : Signs
-signs = record { says = says; signs = small; back = back; byte = byte; forth = forth }
+signs = record { says = says; signs = λ b byte. small b; back = back; byte = byte; forth = forth }

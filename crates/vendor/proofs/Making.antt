@@ -6,23 +6,21 @@ use mathlib.Core.List.{List}
 use mathlib.Core.Bool.{Bool, true, false, _&&_}
 use native.Mathlib.Omega.{arith}
 use lib.ListN.{length, take}
-use lib.Dec.{ltb, leb, eqb}
-use borrow.Author.Tests.{le-leb, lt-leb, ltb-false, eqb-true}
+use lib.Dec.{leb, eqb}
+use borrow.Author.Tests.{le-leb, lt-leb, eqb-true}
 use Rattle.layout.specs.declared.Format.{Format}
-use Rattle.layout.specs.declared.Chosen.{Chosen}
-use Rattle.layout.specs.declared.Chosen.the-variants.{Known, Unknown}
+use Rattle.layout.specs.declared.Chosen.the-variants.{Known}
 use Rattle.layout.specs.declared.Made.{Made}
 use Rattle.layout.specs.declared.Made.the-variants.{Wrote}
 use Rattle.layout.specs.Bytes.{if, all, part, refusal}
-use Rattle.layout.specs.Editions.{chosen}
 use Rattle.layout.specs.Read.{limit}
 use Rattle.layout.specs.Write.{Outcome, refuse}
 use Rattle.laws.proofs.Choices.{both}
 use Rattle.output.specs.Placing.{copied}
 use Rattle.blocks.specs.declared.Offsets.{Offsets}
 use Rattle.blocks.specs.Payload.{front, payloadOf, cutInto, sum, writable}
-use Rattle.blocks.specs.Vendor.{askChosen, asked, putValues, writeVendor}
-use Rattle.blocks.proofs.Asking.{write-asked}
+use Rattle.blocks.specs.Vendor.{asked, putValues, writeVendor}
+use Rattle.blocks.proofs.Asking.{asked-short, write-asked}
 use Rattle.blocks.proofs.Lengths.{length-front, length-values}
 use Rattle.vendor.specs.declared.Pieces.the-variants.{Right, Wrong}
 use Rattle.vendor.specs.Pieces.{countedBy}
@@ -56,19 +54,6 @@ module _ (serial : List ℕ) (o : Offsets) (pieces : List ℕ) (whole : sum piec
       rw (le-leb (length values) (length out) fits, copied-front out values fits, long)
 
 -- ---- the call
-
-asked-short : (f e lent : ℕ) (g : Format) → asked f e lent ≡ Known g → lent ≤ limit
-unfolding asked
-asked-short f e lent g q = go (eqb f 4) (chosen f e) q
-  where
-    by-test : (t : Bool) (h : Format) → ltb limit lent ≡ t → if t (λ _. Unknown 2) (λ _. Known h) ≡ Known g → lent ≤ limit
-    by-test true h is q = let z : _≡_ {A = ℕ} 0 1 = cc in absurd (omega arith)
-    by-test false h is q = ltb-false limit lent is
-
-    go : (b : Bool) (x : Chosen) → if b (λ _. askChosen x lent) (λ _. Unknown 16) ≡ Known g → lent ≤ limit
-    go true (Known h) q = by-test (ltb limit lent) h refl q
-    go true (Unknown n) q = let z : _≡_ {A = ℕ} 0 1 = cc in absurd (omega arith)
-    go false x q = let z : _≡_ {A = ℕ} 0 1 = cc in absurd (omega arith)
 
 module _ (f e : ℕ) (serial : List ℕ) (o : Offsets) (pieces out : List ℕ) where
   module _ (g : Format) (q : asked f e (length out) ≡ Known g) where
