@@ -18,7 +18,7 @@ use Rattle.blocks.specs.declared.Offsets.{Offsets}
 use Rattle.blocks.specs.declared.Block.{Block}
 use Rattle.blocks.specs.declared.Vended.{Vended}
 use Rattle.blocks.specs.declared.Vended.the-variants.{Tells, Unread}
-use Rattle.blocks.specs.Offset.{signedByte}
+use Rattle.blocks.specs.Offset.{signed, signedByte}
 use Rattle.blocks.specs.Vendor.{readVendor, toldVended, piecesIn, writeVendor}
 use Rattle.records.specs.Packed.{packed}
 use Rattle.records.specs.Words.{wordBytes, wordsBytes, signedWord, blockWords, blockBytes}
@@ -157,61 +157,41 @@ vendor-lent f e img buffer m =
 
 -- ---- offsets and piece lengths
 
--- the last byte of a number
-last-byte : (b r : ℕ) → b < 256 → (b + r * 256) % 256 ≡ b
-last-byte b r lt = let d : (b + r * 256) / 256 ≡ r = omega arith in omega arith
+-- the last byte of a number says an offset, where the number is its signed byte and 256 times another
+last-says : (z : ℤ) (n r : ℕ) → SignedByte z → n ≡ signedByte z + r * 256 → signed (n % 256) ≡ z
+last-says z n r h is =
+    let byte = signs .byte z h in
+    let next : n / 256 ≡ r = omega arith in
+    let last : n % 256 ≡ signedByte z = omega arith in
+    ap signed last ∙ signs .forth z h
 
 offsets-back : (o : Offsets) → SignedBytes o → offsetsOf (offsetsWord o) ≡ o
 offsets-back o s =
-    let b₀ : ℕ = signedByte (o .«c_west_in») in
-    let b₁ : ℕ = signedByte (o .«c_west_out») in
-    let b₂ : ℕ = signedByte (o .«c_east_in») in
-    let b₃ : ℕ = signedByte (o .«c_east_out») in
-    let b₄ : ℕ = signedByte (o .«l_west_in») in
-    let b₅ : ℕ = signedByte (o .«l_west_out») in
-    let b₆ : ℕ = signedByte (o .«l_east_in») in
-    let b₇ : ℕ = signedByte (o .«l_east_out») in
-    let lt₀ : b₀ < 256 = signs .byte (o .«c_west_in») (s .0) in
-    let lt₁ : b₁ < 256 = signs .byte (o .«c_west_out») (s .1) in
-    let lt₂ : b₂ < 256 = signs .byte (o .«c_east_in») (s .2) in
-    let lt₃ : b₃ < 256 = signs .byte (o .«c_east_out») (s .3) in
-    let lt₄ : b₄ < 256 = signs .byte (o .«l_west_in») (s .4) in
-    let lt₅ : b₅ < 256 = signs .byte (o .«l_west_out») (s .5) in
-    let lt₆ : b₆ < 256 = signs .byte (o .«l_east_in») (s .6) in
-    let lt₇ : b₇ < 256 = signs .byte (o .«l_east_out») (s .7) in
-    let r₇ : ℕ = b₇ in
-    let r₆ : ℕ = b₆ + r₇ * 256 in
-    let r₅ : ℕ = b₅ + r₆ * 256 in
-    let r₄ : ℕ = b₄ + r₅ * 256 in
-    let r₃ : ℕ = b₃ + r₄ * 256 in
-    let r₂ : ℕ = b₂ + r₃ * 256 in
-    let r₁ : ℕ = b₁ + r₂ * 256 in
+    let b₀ = signs .byte (o .«c_west_in») (s .0) in
+    let b₁ = signs .byte (o .«c_west_out») (s .1) in
+    let b₂ = signs .byte (o .«c_east_in») (s .2) in
+    let b₃ = signs .byte (o .«c_east_out») (s .3) in
+    let b₄ = signs .byte (o .«l_west_in») (s .4) in
+    let b₅ = signs .byte (o .«l_west_out») (s .5) in
+    let b₆ = signs .byte (o .«l_east_in») (s .6) in
+    let b₇ = signs .byte (o .«l_east_out») (s .7) in
+    let r₇ : ℕ = signedByte (o .«l_east_out») in
+    let r₆ : ℕ = signedByte (o .«l_east_in») + r₇ * 256 in
+    let r₅ : ℕ = signedByte (o .«l_west_out») + r₆ * 256 in
+    let r₄ : ℕ = signedByte (o .«l_west_in») + r₅ * 256 in
+    let r₃ : ℕ = signedByte (o .«c_east_out») + r₄ * 256 in
+    let r₂ : ℕ = signedByte (o .«c_east_in») + r₃ * 256 in
+    let r₁ : ℕ = signedByte (o .«c_west_out») + r₂ * 256 in
     let w : ℕ = offsetsWord o in
-    let q₀ : w % 256 ≡ b₀ = (let d : w ≡ b₀ + r₁ * 256 = omega arith in ap (λ (n : ℕ). n % 256) d ∙ last-byte b₀ r₁ lt₀) in
-    let q₁ : w / 256 % 256 ≡ b₁ = (let d : w / 256 ≡ b₁ + r₂ * 256 = omega arith in ap (λ (n : ℕ). n % 256) d ∙ last-byte b₁ r₂ lt₁) in
-    let q₂ : w / 65536 % 256 ≡ b₂ = (let d : w / 65536 ≡ b₂ + r₃ * 256 = omega arith in ap (λ (n : ℕ). n % 256) d ∙ last-byte b₂ r₃ lt₂) in
-    let q₃ : w / 16777216 % 256 ≡ b₃ = (let d : w / 16777216 ≡ b₃ + r₄ * 256 = omega arith in ap (λ (n : ℕ). n % 256) d ∙ last-byte b₃ r₄ lt₃) in
-    let q₄ : w / 4294967296 % 256 ≡ b₄ = (let d : w / 4294967296 ≡ b₄ + r₅ * 256 = omega arith in ap (λ (n : ℕ). n % 256) d ∙ last-byte b₄ r₅ lt₄) in
-    let q₅ : w / 1099511627776 % 256 ≡ b₅ = (let d : w / 1099511627776 ≡ b₅ + r₆ * 256 = omega arith in ap (λ (n : ℕ). n % 256) d ∙ last-byte b₅ r₆ lt₅) in
-    let q₆ : w / 281474976710656 % 256 ≡ b₆ = (let d : w / 281474976710656 ≡ b₆ + r₇ * 256 = omega arith in ap (λ (n : ℕ). n % 256) d ∙ last-byte b₆ r₇ lt₆) in
-    let q₇ : w / 72057594037927936 % 256 ≡ b₇ = (let d : w / 72057594037927936 ≡ b₇ + 0 * 256 = omega arith in ap (λ (n : ℕ). n % 256) d ∙ last-byte b₇ 0 lt₇) in
     rw (
-      q₀,
-      q₁,
-      q₂,
-      q₃,
-      q₄,
-      q₅,
-      q₆,
-      q₇,
-      signs .forth (o .«c_west_in») (s .0),
-      signs .forth (o .«c_west_out») (s .1),
-      signs .forth (o .«c_east_in») (s .2),
-      signs .forth (o .«c_east_out») (s .3),
-      signs .forth (o .«l_west_in») (s .4),
-      signs .forth (o .«l_west_out») (s .5),
-      signs .forth (o .«l_east_in») (s .6),
-      signs .forth (o .«l_east_out») (s .7),
+      last-says (o .«c_west_in») w r₁ (s .0) (omega arith),
+      last-says (o .«c_west_out») (w / 256) r₂ (s .1) (omega arith),
+      last-says (o .«c_east_in») (w / 65536) r₃ (s .2) (omega arith),
+      last-says (o .«c_east_out») (w / 16777216) r₄ (s .3) (omega arith),
+      last-says (o .«l_west_in») (w / 4294967296) r₅ (s .4) (omega arith),
+      last-says (o .«l_west_out») (w / 1099511627776) r₆ (s .5) (omega arith),
+      last-says (o .«l_east_in») (w / 281474976710656) r₇ (s .6) (omega arith),
+      last-says (o .«l_east_out») (w / 72057594037927936) 0 (s .7) (omega arith),
     )
 
 pub vendor-from-c : VendorFromC
