@@ -13,7 +13,6 @@ use borrow.Author.Tests.{lt-ltb}
 use Rattle.layout.specs.declared.Frame.{Frame}
 use Rattle.layout.specs.declared.Chosen.{Chosen}
 use Rattle.layout.specs.declared.Chosen.the-variants.{Known, Unknown}
-use Rattle.layout.specs.declared.Made.{Made}
 use Rattle.layout.specs.declared.Refusal.{Refusal}
 use Rattle.layout.specs.Bytes.{if, part, refusal}
 use Rattle.layout.specs.Shape.{Shape}
@@ -210,7 +209,3 @@ module _ (f e : ℕ) (image : List ℕ) (i : ℕ) (v out : List ℕ) (room : Roo
         spotted-within image H rest (way .entries) (room .start) (room .end) (room .over) i p h (m .is) (m .starts) (way .over) w,
         edit-taken ∙ by-rules S e image (room .start) (room .over) p h v out (way .entries) i (w .raw) (w .after) (ap (λ (r : Raw). r .frame) (w .is)) (spotted-edited image H rest (way .entries) (room .start) (room .end) (room .over) i p h (m .is) (m .starts) (way .over) w v) may,
       )
-
--- an outcome by its answer and what the output then is
-pub outcome : {x : Outcome} {a : Made} {m : List ℕ} → x ≡ record { answer = a; memory = m } → (a ≡ x .answer) × (m ≡ x .memory)
-outcome q = (sym (ap (λ (y : Outcome). y .answer) q), sym (ap (λ (y : Outcome). y .memory) q))

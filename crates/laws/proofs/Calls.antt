@@ -1,7 +1,7 @@
 -- The calls by what reading an image gives: an accepted image as the laws have it, and one that is made so.
 -- Assumes nothing.
 use Prim.Native.Nat.{ℕ, _≤_}
-use mathlib.Core.Path.{_≡_, refl}
+use mathlib.Core.Path.{_≡_, refl, ap, sym, _∙_}
 use mathlib.Core.List.{List, [], map}
 use mathlib.Core.Bool.{Bool, true, false, _||_}
 use native.Mathlib.Omega.{arith}
@@ -13,12 +13,17 @@ use Rattle.layout.specs.declared.Format.the-variants.{Fboss, Vpd, Tiny, Onie}
 use Rattle.layout.specs.declared.Chosen.{Chosen}
 use Rattle.layout.specs.declared.Chosen.the-variants.{Known, Unknown}
 use Rattle.layout.specs.declared.Checked.the-variants.{Accepted}
+use Rattle.layout.specs.declared.Made.{Made}
 use Rattle.layout.specs.Bytes.{if, refusal}
+use Rattle.layout.specs.Fboss.{fboss}
+use Rattle.layout.specs.Vpd.{vpd}
+use Rattle.layout.specs.Tiny.{tiny}
+use Rattle.layout.specs.Onie.{onie}
 use Rattle.layout.specs.Editions.{shape, knownEdition, withEdition, chosen}
 use Rattle.layout.specs.Walk.{Raw, content, flat}
 use Rattle.layout.specs.Read.{limit, complete, codesOf, Read, accepted, refused, bad, readAs, readChosen, readImage}
 use Rattle.layout.specs.Calls.{checkedBy, checkImage}
-use Rattle.layout.specs.Write.{refuse}
+use Rattle.layout.specs.Write.{Outcome, refuse}
 use Rattle.layout.specs.Edit.{editRead, editChosen, editEntry}
 use Rattle.laws.specs.Grammar.{grammar, Lawful}
 use Rattle.laws.proofs.Walking.{Frames}
@@ -32,7 +37,7 @@ pub record Has (g : Format) (e : ℕ) : Type 0 where
   pub known : knownEdition e ≡ true
   pub since : leb (shape g .edition) e ≡ true
 
-pub with-known : (e : ℕ) (f g : Format) → withEdition e f ≡ Known g → (f ≡ g) × Has g e
+with-known : (e : ℕ) (f g : Format) → withEdition e f ≡ Known g → (f ≡ g) × Has g e
 with-known e f g q = go (knownEdition e) (leb (shape f .edition) e) refl refl q
   where
     go : (b c : Bool) → knownEdition e ≡ b → leb (shape f .edition) e ≡ c → if b (λ _. if c (λ _. Known f) (λ _. Unknown 16)) (λ _. Unknown 1) ≡ Known g → (f ≡ g) × Has g e
@@ -60,6 +65,14 @@ chosen-stands f e g q = go (eqb f 1) (eqb f 2) (eqb f 3) (eqb f 4) refl refl ref
     go false false true b₄ e₁ e₂ e₃ e₄ q = let w = with-known e Tiny g q in (rw (← w .0) (three e₁ e₂ e₃), w .1)
     go false false false true e₁ e₂ e₃ e₄ q = let w = with-known e Onie g q in (rw (← w .0) (four e₁ e₂ e₃ e₄), w .1)
     go false false false false e₁ e₂ e₃ e₄ q = let z : _≡_ {A = ℕ} 0 1 = cc in absurd (omega arith)
+
+-- a number that is a format's stands for that format
+pub is-format : (h : Format) (f e : ℕ) (g : Format) → f ≡ shape h .number → chosen f e ≡ Known g → g ≡ h
+unfolding chosen fboss vpd tiny onie
+is-format Fboss f e g q k = sym (with-known e Fboss g (ap (λ (x : ℕ). chosen x e) (sym q) ∙ k) .0)
+is-format Vpd f e g q k = sym (with-known e Vpd g (ap (λ (x : ℕ). chosen x e) (sym q) ∙ k) .0)
+is-format Tiny f e g q k = sym (with-known e Tiny g (ap (λ (x : ℕ). chosen x e) (sym q) ∙ k) .0)
+is-format Onie f e g q k = sym (with-known e Onie g (ap (λ (x : ℕ). chosen x e) (sym q) ∙ k) .0)
 
 -- ---- accepted images
 
@@ -141,3 +154,9 @@ edit-read f e image i v out le = go (chosen f e)
     go : (x : Chosen) → editChosen x e image i v out ≡ editRead (readChosen x e image) e i v out
     go (Known g) = by-test g (ltb limit (length image))
     go (Unknown n) = refl
+
+-- ---- outcomes
+
+-- an answer and a memory are those of an outcome
+pub outcome : {x : Outcome} {a : Made} {m : List ℕ} → x ≡ record { answer = a; memory = m } → (a ≡ x .answer) × (m ≡ x .memory)
+outcome e = (sym (ap (λ (x : Outcome). x .answer) e), sym (ap (λ (x : Outcome). x .memory) e))

@@ -8,11 +8,11 @@ use native.Mathlib.Omega.{arith}
 use lib.ListN.{length, length-append}
 use Rattle.layout.specs.declared.Format.{Format}
 use Rattle.layout.specs.declared.Format.the-variants.{Tiny}
-use Rattle.layout.specs.declared.Chosen.the-variants.{Known}
 use Rattle.layout.specs.declared.Entry.{Entry}
 use Rattle.layout.specs.declared.Lookup.the-variants.{Found}
 use Rattle.layout.specs.Shape.{Shape}
-use Rattle.layout.specs.Editions.{shape, chosen}
+use Rattle.layout.specs.Tiny.{tiny}
+use Rattle.layout.specs.Editions.{shape}
 use Rattle.layout.specs.Walk.{Raw, flat, done}
 use Rattle.layout.specs.Read.{limit, Read, accepted, refused, readImage}
 use Rattle.layout.specs.Calls.{nth, entriesOf, foundBy, entryAt}
@@ -22,17 +22,13 @@ use Rattle.laws.proofs.Format.{Laws}
 use Rattle.laws.proofs.Formats.{laws}
 use Rattle.laws.proofs.Frames.{raw-size, raw-some}
 use Rattle.laws.proofs.Walking.{Frames}
-use Rattle.laws.proofs.Calls.{with-known, accepted-reading}
+use Rattle.laws.proofs.Calls.{is-format, accepted-reading}
 use Rattle.accept.specs.declared.Room.{Room as TakenRoom}
 use Rattle.accept.proofs.Rooms.{Took}
 
--- format number 3 is Tiny
-three-tiny : (f e : ℕ) (g : Format) → f ≡ 3 → chosen f e ≡ Known g → g ≡ Tiny
-unfolding chosen
-three-tiny f e g q k = sym (with-known e Tiny g (ap (λ (x : ℕ). chosen x e) (sym q) ∙ k) .0)
-
 pub tiny-walks : (f e : ℕ) (image : List ℕ) (room : TakenRoom) → f ≡ 3 → (w : Took f e image room) → walked Tiny image (room .start) (room .end) ≡ done (w .entries) (room .over)
-tiny-walks f e image room q w = sym (ap (λ (g : Format). walked g image (room .start) (room .end)) (three-tiny f e (room .format) q (w .known))) ∙ w .walks
+unfolding tiny
+tiny-walks f e image room q w = sym (ap (λ (g : Format). walked g image (room .start) (room .end)) (is-format Tiny f e (room .format) q (w .known))) ∙ w .walks
 
 -- ---- an image has few entries
 

@@ -33,10 +33,6 @@ front-there d serial o le = joined-there d (front serial o) (12 + length serial)
 
 -- ---- the values
 
--- an answer and a memory are those of an outcome
-pub outcome : {a : Made} {m : List ℕ} {t : Outcome} → t ≡ record { answer = a; memory = m } → (a ≡ t .answer) × (m ≡ t .memory)
-outcome e = (sym (ap (λ (t : Outcome). t .answer) e), sym (ap (λ (t : Outcome). t .memory) e))
-
 module _ (serial : List ℕ) (o : Offsets) (pieces : List ℕ) (whole : sum pieces ≡ 16 + length serial) where
   abbrev values : List ℕ
   values = cutInto pieces (payloadOf serial o)

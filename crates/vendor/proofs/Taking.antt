@@ -18,7 +18,7 @@ use Rattle.layout.specs.Editions.{shape, chosen}
 use Rattle.layout.specs.Walk.{Content, content, done}
 use Rattle.layout.specs.Read.{Read, readImage}
 use Rattle.laws.specs.Passes.{walked, IsDone, rawsIn}
-use Rattle.laws.proofs.Calls.{with-known}
+use Rattle.laws.proofs.Calls.{is-format}
 use Rattle.laws.proofs.Choices.{false-true}
 use Rattle.laws.proofs.Onie.{onie-room}
 use Rattle.output.specs.Placing.{over, copied}
@@ -58,11 +58,6 @@ some-match (c ∷ cs) buffer q = refl
 
 -- ---- the image
 
--- format number 4 is ONIE
-four-onie : (f e : ℕ) (g : Format) → f ≡ 4 → chosen f e ≡ Known g → g ≡ Onie
-unfolding chosen
-four-onie f e g q k = sym (with-known e Onie g (ap (λ (x : ℕ). chosen x e) (sym q) ∙ k) .0)
-
 module _ (f e : ℕ) (image buffer : List ℕ) where
   module _ (g : Format) (q : asked f e (length buffer) ≡ Known g) where
     reads : readVendor f e image buffer ≡ takeRead (readImage f e image) buffer
@@ -82,7 +77,7 @@ module _ (f e : ℕ) (image buffer : List ℕ) where
     unfolding onie
     read-reached room t =
         let w = took f e image room t in
-        let format : room .format ≡ Onie = four-onie f e (room .format) (asked-four f e (length buffer) g q) (w .known) in
+        let format : room .format ≡ Onie = is-format Onie f e (room .format) (asked-four f e (length buffer) g q) (w .known) in
         let walks : walked Onie image (room .start) (room .end) ≡ done (w .entries) (room .over) = sym (ap (λ (h : Format). walked h image (room .start) (room .end)) format) ∙ w .walks in
         let opens : shape Onie .opened image ≡ Opens (room .start) (room .end) = sym (ap (λ (h : Format). shape h .opened image) format) ∙ w .opens in
         let r = rw opens at (onie-room image) in

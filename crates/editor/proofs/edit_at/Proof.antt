@@ -6,7 +6,8 @@ use denote.Ref.{now}
 use borrow.Author.Tests.{not-true, not-false}
 use Rattle.layout.specs.Editions.{shape}
 use Rattle.layout.specs.Write.{Outcome}
-use Rattle.editor.proofs.Edits.{at-unnamed, at-length, at-value, at-put, outcome}
+use Rattle.laws.proofs.Calls.{outcome}
+use Rattle.editor.proofs.Edits.{at-unnamed, at-length, at-value, at-put}
 use Rattle.editor.proofs.edit_at.Statement.{statement}
 use Rattle.editor.proofs.edit_at.Tie as tie
 

@@ -4,7 +4,8 @@ use borrow.Author.Needs.{needs}
 use mathlib.Core.Path.{ap, sym, _∙_}
 use denote.Ref.{now}
 use Rattle.layout.specs.Write.{Outcome}
-use Rattle.editor.proofs.Edits.{outcome, edit-long, edit-refused, edit-nowhere, edit-here}
+use Rattle.laws.proofs.Calls.{outcome}
+use Rattle.editor.proofs.Edits.{edit-long, edit-refused, edit-nowhere, edit-here}
 use Rattle.editor.proofs.edit_entry.Statement.{statement}
 use Rattle.editor.proofs.edit_entry.Tie as tie
 

@@ -5,7 +5,8 @@ use denote.Ref.{now}
 use Rattle.layout.specs.Write.{Outcome}
 use Rattle.blocks.specs.Vendor.{piecesIn}
 use Rattle.blocks.proofs.Asking.{write-unasked}
-use Rattle.vendor.proofs.Making.{outcome, write-short, write-serial, write-wrong, write-right}
+use Rattle.laws.proofs.Calls.{outcome}
+use Rattle.vendor.proofs.Making.{write-short, write-serial, write-wrong, write-right}
 use borrow.Author.Needs.{needs}
 use Rattle.vendor.proofs.write_vendor.Statement.{statement}
 use Rattle.vendor.proofs.write_vendor.Tie as tie
