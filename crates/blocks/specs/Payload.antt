@@ -49,7 +49,7 @@ blockLength s = getD s (1 + serialLength s) 0 * 256 + getD s (1 + serialLength s
 abbrev pub blockPlace : List ℕ → ℕ
 blockPlace s = 1 + serialLength s + 2
 
--- it is exactly as long as its parts: a length byte, the serial, two length bytes, the block, and the check. A length that can't be read counts as 0, and then it is too short
+-- a payload is exactly as long as its parts: a length byte, the serial, two length bytes, the block, and the check. A byte of a length that is missing counts as 0, and then the payload is too short
 unfoldable pub measured : List ℕ → Bool
 measured s = eqb (length s) (1 + serialLength s + 2 + blockLength s + 4)
 
@@ -61,6 +61,7 @@ checked s = sameBytes (part (length s - 4) 4 s) (fourBytes (check32Of (take (len
 unfoldable pub amplifier : List ℕ → Bool
 amplifier s = eqb (blockLength s) 9 && eqb (getD s (blockPlace s) 0) 0x00
 
+-- what it says: where its serial and its block stand, and the offsets after the version
 abbrev pub blockOf : List ℕ → Block
 blockOf s =
     record {
@@ -84,6 +85,7 @@ payloadSays s =
 abbrev pub front : List ℕ → Offsets → List ℕ
 front serial o = length serial ∷ (serial ++ (0x00 ∷ 0x09 ∷ 0x00 ∷ offsetBytes o))
 
+-- the payload of a serial and offsets, with the right check
 unfoldable pub payloadOf : List ℕ → Offsets → List ℕ
 payloadOf serial o = front serial o ++ fourBytes (check32Of (front serial o))
 
@@ -92,6 +94,7 @@ unfoldable pub cutInto : List ℕ → List ℕ → List ℕ
 cutInto [] s = []
 cutInto (n ∷ ns) s = prefix ++ (take n s ++ cutInto ns (drop n s))
 
+-- the numbers of a list, added
 abbrev pub sum : List ℕ → ℕ
 sum [] = 0
 sum (n ∷ ns) = n + sum ns

@@ -27,7 +27,7 @@ abbrev pub askChosen : Chosen → ℕ → Chosen
 askChosen (Known f) lent = if (ltb limit lent) (λ _. Unknown 2) (λ _. Known f)
 askChosen (Unknown n) lent = Unknown n
 
--- 16 for any format but 4; 1, and 16 for an edition that does not have it; 2 where too many bytes are lent to be written
+-- 16 for any format but 4; 1 for an unknown edition, and 16 for one that does not have the format; 2 where too many bytes are lent to be written
 unfoldable pub asked : ℕ → ℕ → ℕ → Chosen
 asked f e lent = if (eqb f 4) (λ _. askChosen (chosen f e) lent) (λ _. Unknown 16)
 
@@ -38,6 +38,7 @@ pub record Taking : Type 0 where
   pub answer : Vended
   pub memory : List ℕ
 
+-- a refused read leaves the buffer as it was
 abbrev pub untaken : Refusal → List ℕ → Taking
 untaken r buffer = record { answer = Unread r; memory = buffer }
 
@@ -54,6 +55,7 @@ abbrev pub takeMatching : List Content → List ℕ → Taking
 takeMatching [] buffer = untaken (refusal 17 0) buffer
 takeMatching (c ∷ cs) buffer = taking (payloadSays (joined (c ∷ cs))) (joined (c ∷ cs)) buffer
 
+-- by what the image is read as
 abbrev pub takeRead : Read → List ℕ → Taking
 takeRead (accepted f start rs) buffer = takeMatching (matching (map content rs)) buffer
 takeRead (refused r) buffer = untaken r buffer
@@ -66,6 +68,7 @@ takeAsked (Unknown n) f e img buffer = untaken (refusal n 0) buffer
 unfoldable pub readVendor : ℕ → ℕ → List ℕ → List ℕ → Taking
 readVendor f e img buffer = takeAsked (asked f e (length buffer)) f e img buffer
 
+-- what the answer tells beside the block: the length of the payload, or the refusal
 abbrev pub toldVended : Vended → Told
 toldVended (Tells n b) = told n (partAt 0 0) []
 toldVended (Unread r) = toldRefusal r

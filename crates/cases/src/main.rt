@@ -399,12 +399,12 @@ fn is_block(b: Block) -> bool {
         & parts::same_bytes(&bytes, b"\x00\x00\x00\x00\x00\x00\x00\x00")
 }
 
-// Whether a read gives 003's payload, in 30 bytes of buffer.
+// Whether a read gives 003's payload, in 25 bytes of buffer.
 fn is_amplifier(image: &[u8]) -> bool {
-    let mut payload = [0xAAu8; 30];
+    let mut payload = [0xAAu8; 25];
     let v = vendor::read_vendor(&mut payload, 4, 3, image);
     match v {
-        Vended::Tells(n, b) => (n == 29) & is_block(b) & is_payload(&payload),
+        Vended::Tells(n, b) => (n == 24) & is_block(b) & is_payload(&payload),
         Vended::Unread(_) => false,
     }
 }
@@ -419,9 +419,9 @@ fn is_no_amplifier(edition: u32, image: &[u8], number: u32) -> bool {
     }
 }
 
-// 003's values, in one piece and in two, in 40 bytes of output.
+// 003's values, in one piece and in two, in 35 bytes of output.
 fn is_vendor_written(pieces: &[u8], count: usize, values: &[u8]) -> bool {
-    let mut out = [0xAAu8; 40];
+    let mut out = [0xAAu8; 35];
     let zeros = offsets::offsets_in(b"\x00\x00\x00\x00\x00\x00\x00\x00");
     let m = vendor::write_vendor(&mut out, 4, 3, b"DQ000MPW", zeros, pieces);
     is_made(m, count) & parts::same_bytes(&out, values)
@@ -449,17 +449,17 @@ fn run_amplifiers(one: &[u8], two: &[u8], wrong: &[u8], empty: &[u8]) {
     say(
         b"payload written in one piece",
         is_vendor_written(
-            b"\x1D\x00\x00\x00",
-            34,
+            b"\x18\x00\x00\x00",
+            29,
             b"\x00\x00\x1Fy\x00\x08DQ000MPW\x00\x09\x00\x00\x00\x00\x00\x00\x00\x00\x00\x02`QK\xAA\xAA\xAA\xAA\xAA\xAA",
         ),
     );
     say(
         b"payload written in two pieces",
         is_vendor_written(
-            b"\x1C\x00\x00\x00\x01\x00\x00\x00",
-            39,
-            b"\x00\x00\x1Fy\x00\x08DQ000MPW\x00\x09\x00\x00\x00\x00\x00\x00\x00\x00\x00\x02`QK\x00\x00\x1Fy\x00\xAA",
+            b"\x17\x00\x00\x00\x01\x00\x00\x00",
+            34,
+            b"\x00\x00\x1Fy\x00\x08DQ000MPW\x00\x09\x00\x00\x00\x00\x00\x00\x00\x00\x00\x02`Q\x00\x00\x1Fy\x00K\xAA",
         ),
     );
 }
@@ -512,8 +512,8 @@ fn main() {
     );
     run_amplifiers(
         b"TlvInfo\x00\x01\x00%\xFD\x1D\x00\x00\x1Fy\x00\x08DQ000MPW\x00\x09\x00\x00\x00\x00\x00\x00\x00\x00\x00\x02`QK\xFE\x04\xC4\xCA\xCB\xB7",
-        b"TlvInfo\x00\x01\x00,\xFD\x1D\x00\x00\x1Fy\x00\x08DQ000MPW\x00\x09\x00\x00\x00\x00\x00\x00\x00\x00\x00\x02`QK\xFD\x05\x00\x00\x1Fy\x00\xFE\x04\x10\x86\x1E\x95",
-        b"TlvInfo\x00\x01\x00&\xFD\x1E\x00\x00\x1Fy\x00\x08DQ000MPW\x00\x09\x00\x00\x00\x00\x00\x00\x00\x00\x00\x02`QKL\xFE\x04x\xE3k5",
+        b"TlvInfo\x00\x01\x00,\xFD\x1C\x00\x00\x1Fy\x00\x08DQ000MPW\x00\x09\x00\x00\x00\x00\x00\x00\x00\x00\x00\x02`Q\xFD\x06\x00\x00\x1Fy\x00K\xFE\x04\x0F\xAE\x02\xF5",
+        b"TlvInfo\x00\x01\x00%\xFD\x1D\x00\x00\x1Fy\x00\x08DQ000MPW\x00\x09\x00\x00\x00\x00\x00\x00\x00\x00\x00\x02`QL\xFE\x04\xC1\x85\xDD2",
         b"TlvInfo\x00\x01\x00\x06\xFE\x04\xD4C\x1C\x18",
     );
     run_pool(b"\x56\x02\x0E\x10\x00\x01\x06AB\xC3D\xC5F\x2F");

@@ -1,6 +1,6 @@
 // The types that the definitions of specs/ and the code of the other crates share. There is no function here.
 
-// 01's term "place": it counts bytes of the image. In a field it counts bytes of the lent values, and in a write's refusal it may be a field's number in the list.
+// 01's term "place": it counts bytes of the image. In a field it counts bytes of the lent values, in a vendor block bytes of the payload, and in a write's refusal it may be a field's number in the list.
 pub struct Place(pub usize);
 
 // 01's term "string number": it counts the strings of a Tiny pool, from 0.
@@ -73,7 +73,7 @@ pub struct Field {
     pub value: Part,
 }
 
-// A number of 01's table, and the place that goes with it.
+// A number of 01's table or of 02's, and the place that goes with it.
 pub struct Refusal {
     pub number: u32,
     pub place: Place,
@@ -97,7 +97,7 @@ pub enum Located {
     Nowhere(Refusal),
 }
 
-// The answer of a write and of an edit: the length of the image, its end included.
+// The answer of a write and of an edit: the length of the image, its end included. Of a vendor write: the number of bytes put out.
 pub enum Made {
     Wrote(usize),
     Unwritten(Refusal),
