@@ -206,11 +206,6 @@ pub fn onie_sealed(image: &[u8], p: usize) -> bool
         return false;
     }
     let c = crc::check32_closed(&image[..p], 0xFE, 0x04);
-    let check = [
-        (c / 16777216) as u8,
-        (c / 65536 % 256) as u8,
-        (c / 256 % 256) as u8,
-        (c % 256) as u8,
-    ];
+    let check = parts::four_bytes(c);
     parts::is_stored(image, p + 2, &check)
 }

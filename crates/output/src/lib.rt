@@ -340,14 +340,8 @@ fn finish_onie(out: &mut [u8], n: usize)
     copy_at(out, 8, &version_and_length);
     let at = n + 11;
     let c = crc::check32_closed(&out[..at], 0xFE, 0x04);
-    let end = [
-        0xFE,
-        0x04,
-        (c / 16777216) as u8,
-        (c / 65536 % 256) as u8,
-        (c / 256 % 256) as u8,
-        (c % 256) as u8,
-    ];
+    let check = parts::four_bytes(c);
+    let end = [0xFE, 0x04, check[0], check[1], check[2], check[3]];
     put_end(out, at, &end);
 }
 

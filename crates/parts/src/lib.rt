@@ -6,6 +6,7 @@ ghost use lib.Dec.{leb};
 ghost use Rattle.layout.specs.Bytes.{all, between, sameBytes, part, highFirst, refusal};
 ghost use Rattle.layout.specs.Shape.{byteLength, codedHead};
 ghost use Rattle.layout.specs.Fboss.{printable};
+ghost use Rattle.layout.specs.Onie.{fourBytes};
 use layout::Head;
 use layout::Headed;
 use layout::Length;
@@ -133,6 +134,18 @@ pub fn count_bytes(s: &[u8]) -> u64
     ensures { λ r. ⌜ r ≡ highFirst 0 (part 6 2 (now (s .entry))) ⌝ }
 {
     high_first(s, 6, 8)
+}
+
+// A number in four bytes, high byte first.
+pub fn four_bytes(n: u32) -> [u8; 4]
+    ensures { λ r. ⌜ r ≡ fourBytes n ⌝ }
+{
+    [
+        (n / 16777216) as u8,
+        (n / 65536 % 256) as u8,
+        (n / 256 % 256) as u8,
+        (n % 256) as u8,
+    ]
 }
 
 // Whether two parts are the same bytes.

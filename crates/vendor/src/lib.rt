@@ -129,12 +129,7 @@ fn is_checked(payload: &[u8]) -> bool
     }
     let n = payload.len() - 4;
     let c = crc::check32(&payload[..n]);
-    let check = [
-        (c / 16777216) as u8,
-        (c / 65536 % 256) as u8,
-        (c / 256 % 256) as u8,
-        (c % 256) as u8,
-    ];
+    let check = parts::four_bytes(c);
     parts::is_stored(payload, n, &check)
 }
 
@@ -340,12 +335,7 @@ fn put_payload(own: &mut [u8], serial: &[u8], offsets: Offsets)
     put_front(own, serial, offsets);
     let n = 12 + serial.len();
     let c = crc::check32(&own[..n]);
-    let check = [
-        (c / 16777216) as u8,
-        (c / 65536 % 256) as u8,
-        (c / 256 % 256) as u8,
-        (c % 256) as u8,
-    ];
+    let check = parts::four_bytes(c);
     output::copy_at(own, n, &check);
 }
 

@@ -20,17 +20,8 @@ slice-aggregate-check32-closed c = sym (length-take-le _ _ (search needs))
 check32-closed-requires : tie.Need-check32-closed-requires
 check32-closed-requires c κs = search needs
 
-cast-t10 : tie.Need-cast-t10
-cast-t10 c = search needs
-
-cast-t13 : tie.Need-cast-t13
-cast-t13 c = search needs
-
-cast-t16 : tie.Need-cast-t16
-cast-t16 c = search needs
-
-cast-t18 : tie.Need-cast-t18
-cast-t18 c = search needs
+four-bytes-requires : tie.Need-four-bytes-requires
+four-bytes-requires c κs = search needs
 
 add-is-stored : tie.Need-add-is-stored
 add-is-stored c = search needs
@@ -43,7 +34,7 @@ is-stored-requires c κs = search needs
 
 returns-2 : tie.Need-returns-2
 unfolding sealed onie onieCheck
-returns-2 c = rw (c .is-stored .ensures, c .before .before .check32-closed .ensures)
+returns-2 c = rw (c .is-stored .ensures, c .before .before .four-bytes .ensures, c .before .before .before .check32-closed .ensures)
 
 pub onie-sealed-spec : {M : Type 1} → statement M
 onie-sealed-spec =
@@ -52,10 +43,7 @@ onie-sealed-spec =
     returns
     slice-aggregate-check32-closed
     check32-closed-requires
-    cast-t10
-    cast-t13
-    cast-t16
-    cast-t18
+    four-bytes-requires
     add-is-stored
     slice-aggregate-is-stored
     is-stored-requires

@@ -22,11 +22,11 @@ copy-at-requires c κs = search needs
 add-total : tie.Need-add-total
 add-total c = search needs
 
-cast-t16 : tie.Need-cast-t16
-cast-t16 c = search needs
+cast-t17 : tie.Need-cast-t17
+cast-t17 c = search needs
 
-cast-t18 : tie.Need-cast-t18
-cast-t18 c = search needs
+cast-t19 : tie.Need-cast-t19
+cast-t19 c = search needs
 
 slice-aggregate-copy-at-2 : tie.Need-slice-aggregate-copy-at-2
 slice-aggregate-copy-at-2 c = search needs
@@ -46,17 +46,20 @@ slice-aggregate-check32-closed c = sym (length-take-le _ _ (search needs))
 check32-closed-requires : tie.Need-check32-closed-requires
 check32-closed-requires c κs = search needs
 
-cast-t18-2 : tie.Need-cast-t18-2
-cast-t18-2 c = search needs
+four-bytes-requires : tie.Need-four-bytes-requires
+four-bytes-requires c κs = search needs
 
-cast-t16-2 : tie.Need-cast-t16-2
-cast-t16-2 c = search needs
+array-read-t19 : tie.Need-array-read-t19
+array-read-t19 c = search needs
 
-cast-t30 : tie.Need-cast-t30
-cast-t30 c = search needs
+array-read-t17 : tie.Need-array-read-t17
+array-read-t17 c = search needs
 
-cast-t32 : tie.Need-cast-t32
-cast-t32 c = search needs
+array-read-t33 : tie.Need-array-read-t33
+array-read-t33 c = search needs
+
+array-read-t36 : tie.Need-array-read-t36
+array-read-t36 c = search needs
 
 slice-aggregate-put-end : tie.Need-slice-aggregate-put-end
 slice-aggregate-put-end c = search needs
@@ -70,11 +73,11 @@ same-length c = search needs
 returns : tie.Need-returns
 unfolding onie onieCheck
 returns c =
-    let b = c .before .before .before .before .before .before .before .before .before .before .before .before .before .before .before .before .before .before in
+    let b = c .before .before .before .before .before .before .before .before .before .before .before .before .before .before .before .before .before .before .before in
     let a = b .args in
     let version : List ℕ = 0x01 ∷ ((a .n + 6) / 256) ∷ ((a .n + 6) % 256) ∷ [] in
-    let header = copied-then (now (a .out)) 0 tlvInfo version (c .before .before .before .before .before .before .before .before .before .before .before .before .before .before .copy-at .ensures) (c .before .before .before .before .before .before .before .before .before .copy-at2 .ensures) (omega (arith, b .pre .0)) refl in
-    sealed onie (now (a .out)) (tlvInfo ++ version) (a .n) header (c .before .before .put-end .ensures) refl (rw (c .before .before .before .before .before .check32-closed .ensures)) (omega (arith, b .pre .0))
+    let header = copied-then (now (a .out)) 0 tlvInfo version (c .before .before .before .before .before .before .before .before .before .before .before .before .before .before .before .copy-at .ensures) (c .before .before .before .before .before .before .before .before .before .before .copy-at2 .ensures) (omega (arith, b .pre .0)) refl in
+    sealed onie (now (a .out)) (tlvInfo ++ version) (a .n) header (c .before .before .put-end .ensures) refl (rw (c .before .before .before .before .before .four-bytes .ensures, c .before .before .before .before .before .before .check32-closed .ensures)) (omega (arith, b .pre .0))
 
 pub finish-onie-spec : {M : Type 1} → statement M
 finish-onie-spec =
@@ -83,18 +86,19 @@ finish-onie-spec =
     slice-aggregate-copy-at
     copy-at-requires
     add-total
-    cast-t16
-    cast-t18
+    cast-t17
+    cast-t19
     slice-aggregate-copy-at-2
     copy-at-requires-2
     add-at
     slice-reshare-prefix-check32-closed
     slice-aggregate-check32-closed
     check32-closed-requires
-    cast-t18-2
-    cast-t16-2
-    cast-t30
-    cast-t32
+    four-bytes-requires
+    array-read-t19
+    array-read-t17
+    array-read-t33
+    array-read-t36
     slice-aggregate-put-end
     put-end-requires
     same-length

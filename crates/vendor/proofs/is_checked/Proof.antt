@@ -27,17 +27,8 @@ slice-aggregate-check32 c = sym (length-take-le _ _ (omega arith))
 check32-requires : tie.Need-check32-requires
 check32-requires c κs = search needs
 
-cast-t10 : tie.Need-cast-t10
-cast-t10 c = search needs
-
-cast-t13 : tie.Need-cast-t13
-cast-t13 c = search needs
-
-cast-t16 : tie.Need-cast-t16
-cast-t16 c = search needs
-
-cast-t18 : tie.Need-cast-t18
-cast-t18 c = search needs
+four-bytes-requires : tie.Need-four-bytes-requires
+four-bytes-requires c κs = search needs
 
 slice-aggregate-is-stored : tie.Need-slice-aggregate-is-stored
 slice-aggregate-is-stored c = search needs
@@ -47,7 +38,7 @@ is-stored-requires c κs = search needs
 
 returns-2 : tie.Need-returns-2
 unfolding checked
-returns-2 c = rw (c .is-stored .ensures, c .before .before .check32 .ensures)
+returns-2 c = rw (c .is-stored .ensures, c .before .before .four-bytes .ensures, c .before .before .before .check32 .ensures)
 
 pub is-checked-spec : {M : Type 1} → statement M
 is-checked-spec =
@@ -57,10 +48,7 @@ is-checked-spec =
     sub-n
     slice-aggregate-check32
     check32-requires
-    cast-t10
-    cast-t13
-    cast-t16
-    cast-t18
+    four-bytes-requires
     slice-aggregate-is-stored
     is-stored-requires
     returns-2)

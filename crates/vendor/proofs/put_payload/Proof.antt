@@ -33,17 +33,8 @@ slice-aggregate-check32 c = let a = c .before .before .before .before .before .b
 check32-requires : tie.Need-check32-requires
 check32-requires c κs = search needs
 
-cast-t14 : tie.Need-cast-t14
-cast-t14 c = search needs
-
-cast-t17 : tie.Need-cast-t17
-cast-t17 c = search needs
-
-cast-t20 : tie.Need-cast-t20
-cast-t20 c = search needs
-
-cast-t22 : tie.Need-cast-t22
-cast-t22 c = search needs
+four-bytes-requires : tie.Need-four-bytes-requires
+four-bytes-requires c κs = search needs
 
 slice-aggregate-copy-at : tie.Need-slice-aggregate-copy-at
 slice-aggregate-copy-at c = search needs
@@ -57,13 +48,13 @@ same-length c = search needs
 returns : tie.Need-returns
 unfolding payloadOf
 returns c =
-    let b = c .before .before .before .before .before .before .before .before .before .before .before .before .before in
+    let b = c .before .before .before .before .before .before .before .before .before .before .before .before .before .before in
     let d = now (b .args .own) in
     let s = now (b .args .serial) in
     let o = b .args .offsets in
     let f = front s o in
-    let check : c .before .before .before .before .before .check32 .result ≡ check32Of f = c .before .before .before .before .before .check32 .ensures ∙ ap check32Of (ap (take (12 + length s)) (c .before .before .before .before .before .before .before .before .before .put-front .ensures) ∙ front-there d s o (omega (arith, b .pre .1))) in
-    copied-then d 0 f (fourBytes (check32Of f)) (c .before .before .before .before .before .before .before .before .before .put-front .ensures) (c .before .before .copy-at .ensures ∙ ap (λ (x : ℕ). copied (c .before .before .before .before .before .before .before .before .before .put-front .last .0) (12 + length s) (fourBytes x)) check) (omega (arith, b .pre .1, length-front s o, length-append f (fourBytes (check32Of f)))) (omega (arith, length-front s o))
+    let check : c .before .before .before .before .before .before .check32 .result ≡ check32Of f = c .before .before .before .before .before .before .check32 .ensures ∙ ap check32Of (ap (take (12 + length s)) (c .before .before .before .before .before .before .before .before .before .before .put-front .ensures) ∙ front-there d s o (omega (arith, b .pre .1))) in
+    copied-then d 0 f (fourBytes (check32Of f)) (c .before .before .before .before .before .before .before .before .before .before .put-front .ensures) (c .before .before .copy-at .ensures ∙ ap (copied (c .before .before .before .before .before .before .before .before .before .before .put-front .last .0) (12 + length s)) (c .before .before .before .before .before .four-bytes .ensures ∙ ap fourBytes check)) (omega (arith, b .pre .1, length-front s o, length-append f (fourBytes (check32Of f)))) (omega (arith, length-front s o))
 
 pub put-payload-spec : {M : Type 1} → statement M
 put-payload-spec =
@@ -74,10 +65,7 @@ put-payload-spec =
     slice-reshare-prefix-check32
     slice-aggregate-check32
     check32-requires
-    cast-t14
-    cast-t17
-    cast-t20
-    cast-t22
+    four-bytes-requires
     slice-aggregate-copy-at
     copy-at-requires
     same-length
