@@ -1,7 +1,7 @@
 -- What a vendor write puts out and what it is refused by.
 -- Assumes nothing.
 use Prim.Native.Nat.{ℕ, _+_, _*_, _≤_, _<_}
-use mathlib.Core.Path.{_≡_, refl, ap, sym, _∙_}
+use mathlib.Core.Path.{_≡_, refl, ap, sym, _∙_, subst}
 use mathlib.Core.List.{List, [], _∷_, _++_}
 use mathlib.Core.Bool.{Bool, true, false, _&&_}
 use native.Mathlib.Omega.{arith}
@@ -28,7 +28,7 @@ use Rattle.blocks.specs.Vendor.{asked, putValues, putAsked, writeVendor}
 use Rattle.blocks.proofs.Asking.{asked-four, write-asked}
 use Rattle.blocks.proofs.Lengths.{length-payload, length-values}
 use Rattle.promises.specs.Words.{Serves, Counts, Refuses}
-use Rattle.promises.specs.Payload.{whole, Parts, Amplifier, SaysOffsets, SignedBytes}
+use Rattle.promises.specs.Payload.{whole, AddUp, addNone, addOne, Parts, Amplifier, SaysOffsets, SignedBytes}
 use Rattle.promises.specs.Vendor.{tellsVendorWrite, Values, noValue, value, VendorWritten, VendorWrites}
 use Rattle.promises.proofs.FormatNumbers.{every, ChosenNumber}
 use Rattle.promises.proofs.Telling.{serves-chosen}
@@ -47,6 +47,14 @@ each-all : (xs : List ℕ) → Each (λ n. n ≤ 250) xs → all (λ n. leb n 25
 unfolding all
 each-all [] none = refl
 each-all (x ∷ xs) (also le les) = rw (le-leb x 250 le, each-all xs les)
+
+adds : {xs : List ℕ} {n : ℕ} → AddUp xs n → sum xs ≡ n
+adds addNone = refl
+adds (addOne {n} a) = ap (λ (k : ℕ). n + k) (adds a)
+
+add-up : (xs : List ℕ) → AddUp xs (sum xs)
+add-up [] = addNone
+add-up (x ∷ xs) = addOne (add-up xs)
 
 -- the lengths are those of a payload with this serial
 record Fitting (serial lengths : List ℕ) : Type 0 where
@@ -214,8 +222,8 @@ vendor-writes =
     record {
       serial = λ e serial o lengths out s le lt. unfitting e serial o lengths out s le (λ x. omega (arith, x .serial-fits));
       piece = λ e serial o lengths out s le large. unfitting e serial o lengths out s le (λ x. large (x .pieces-fit));
-      total = λ e serial o lengths out s le other. unfitting e serial o lengths out s le (λ x. other (x .total));
-      room = λ e serial o lengths out s le a b c lt. unfit e serial o lengths out s le (record { serial-fits = a; pieces-fit = b; total = c }) lt;
-      taken = λ e serial o lengths out s le a b c room. fit e serial o lengths out s le (record { serial-fits = a; pieces-fit = b; total = c }) room;
+      total = λ e serial o lengths out s le other. unfitting e serial o lengths out s le (λ x. other (subst (AddUp lengths) (x .total) (add-up lengths)));
+      room = λ e serial o lengths out s le a b c lt. unfit e serial o lengths out s le (record { serial-fits = a; pieces-fit = b; total = adds c }) lt;
+      taken = λ e serial o lengths out s le a b c room. fit e serial o lengths out s le (record { serial-fits = a; pieces-fit = b; total = adds c }) room;
       puts = puts;
     }

@@ -34,6 +34,11 @@ abbrev pub Some : List (List ℕ) → Type 0
 Some [] = ⊥
 Some (piece ∷ pieces) = Unit {0}
 
+-- lengths add up to this number
+pub data AddUp : List ℕ → ℕ → Type 0 where
+  addNone : AddUp [] 0
+  addOne : {n total : ℕ} {lengths : List ℕ} → AddUp lengths total → AddUp (n ∷ lengths) (n + total)
+
 -- ---- a payload
 
 -- a payload that is exactly as long as its parts: the serial with its length in one byte, the block with its length in two, high byte first, and four bytes

@@ -17,11 +17,10 @@ use Rattle.blocks.specs.declared.Offsets.{Offsets}
 use Rattle.blocks.specs.declared.Block.{Block}
 use Rattle.blocks.specs.declared.Vended.the-variants.{Tells}
 use Rattle.blocks.specs.Offset.{signed, signedByte}
-use Rattle.blocks.specs.Payload.{sum}
 use Rattle.blocks.specs.Vendor.{readVendor, toldVended, writeVendor}
 use Rattle.promises.specs.Words.{KnownEdition, Serves, Counts, Refuses, IsRefused, Reads, tellsCheck}
 use Rattle.promises.specs.Numbers.{Gives, imageNumbers}
-use Rattle.promises.specs.Payload.{PiecesOf, whole, Some, Parts, RightCheck, SaysOffset, Amplifier, SaysOffsets, SignedByte, SignedBytes}
+use Rattle.promises.specs.Payload.{PiecesOf, whole, Some, AddUp, Parts, RightCheck, SaysOffset, Amplifier, SaysOffsets, SignedByte, SignedBytes}
 
 abbrev pub tellsVendor : ℕ → ℕ → List ℕ → List ℕ → Told
 tellsVendor f e image buffer = toldVended (readVendor f e image buffer .answer)
@@ -81,7 +80,7 @@ pub record VendorReads : Type 0 where
   pub same : (cs : List Content) (pieces others : List (List ℕ)) → PiecesOf cs pieces → PiecesOf cs others → pieces ≡ others
   pub accepted : (e : ℕ) (image buffer : List ℕ) (cs : List Content) → length buffer ≤ 65536 → Reads 4 e image cs → VendorRule e image buffer cs
 
--- with room enough one payload reads the same in every accepted image, however cut and whatever stands between its pieces
+-- with room enough one payload reads the same in every accepted image with a piece, however cut and whatever stands between the pieces
 abbrev pub SamePayload : Type 0
 SamePayload =
     (f e₁ e₂ : ℕ) (image₁ image₂ buffer₁ buffer₂ : List ℕ) (cs₁ cs₂ : List Content) (pieces₁ pieces₂ : List (List ℕ)) →
@@ -124,12 +123,12 @@ pub record VendorWrites : Type 0 where
   pub piece : (e : ℕ) (serial : List ℕ) (o : Offsets) (lengths out : List ℕ) → Serves 4 e Onie → length out ≤ 65536 →
       (Each (λ n. n ≤ 250) lengths → ⊥) → Refuses (tellsVendorWrite 4 e serial o lengths out) 18 0
   pub total : (e : ℕ) (serial : List ℕ) (o : Offsets) (lengths out : List ℕ) → Serves 4 e Onie → length out ≤ 65536 →
-      (sum lengths ≡ 16 + length serial → ⊥) → Refuses (tellsVendorWrite 4 e serial o lengths out) 18 0
+      (AddUp lengths (16 + length serial) → ⊥) → Refuses (tellsVendorWrite 4 e serial o lengths out) 18 0
   pub room : (e : ℕ) (serial : List ℕ) (o : Offsets) (lengths out : List ℕ) → Serves 4 e Onie → length out ≤ 65536 →
-      length serial ≤ 255 → Each (λ n. n ≤ 250) lengths → sum lengths ≡ 16 + length serial →
+      length serial ≤ 255 → Each (λ n. n ≤ 250) lengths → AddUp lengths (16 + length serial) →
       length out < 5 * length lengths + (16 + length serial) → Refuses (tellsVendorWrite 4 e serial o lengths out) 12 0
   pub taken : (e : ℕ) (serial : List ℕ) (o : Offsets) (lengths out : List ℕ) → Serves 4 e Onie → length out ≤ 65536 →
-      length serial ≤ 255 → Each (λ n. n ≤ 250) lengths → sum lengths ≡ 16 + length serial →
+      length serial ≤ 255 → Each (λ n. n ≤ 250) lengths → AddUp lengths (16 + length serial) →
       5 * length lengths + (16 + length serial) ≤ length out → Counts (tellsVendorWrite 4 e serial o lengths out) (5 * length lengths + (16 + length serial))
   pub puts : (f e : ℕ) (serial : List ℕ) (o : Offsets) (lengths out : List ℕ) (n : ℕ) → SignedBytes o → Counts (tellsVendorWrite f e serial o lengths out) n →
       VendorWritten f e serial o lengths out n
