@@ -13,7 +13,7 @@ use borrow.Author.Tests.{lt-ltb, le-ltb, lt-leb, le-leb}
 use Rattle.layout.specs.Bytes.{if, all, oneOf, partAt, refusal}
 use Rattle.layout.specs.Calls.{toldRefusal}
 use Rattle.layout.specs.Write.{word}
-use Rattle.laws.specs.Grammar.{none}
+use Rattle.laws.specs.Grammar.{Each, none}
 use Rattle.blocks.specs.declared.Offsets.{Offsets}
 use Rattle.blocks.specs.declared.Block.{Block}
 use Rattle.blocks.specs.declared.Vended.{Vended}
@@ -194,8 +194,12 @@ offsets-back o s =
       last-says (o .«l_east_out») (w / 72057594037927936) 0 (s .7) (omega arith),
     )
 
+pieces-back : (lengths cut : List ℕ) → Each (λ n. n < 4294967296) lengths → length cut < 4 → piecesIn (wordsBytes lengths ++ cut) ≡ lengths
+unfolding piecesIn wordsBytes
+pieces-back = items-in-back (λ n. n < 4294967296) 4 (word 0) wordBytes wordsBytes refl (λ w ws. refl) (omega arith) (λ w. refl) word-back
+
 pub vendor-from-c : VendorFromC
-unfolding all vendorReadCall piecesIn wordsBytes
+unfolding all vendorReadCall
 vendor-from-c =
     record {
       wholeRead = λ f e img buffer. vended-whole (readVendor f e img buffer .answer) (read-low f e img buffer);
@@ -209,6 +213,5 @@ vendor-from-c =
       unwritten = λ f e serial offsets pieces out r.
           vendor-refused .output f e serial (offsetsOf offsets) (piecesIn pieces) out (is-refused (tellsVendorWrite f e serial (offsetsOf offsets) (piecesIn pieces) out) r);
       read = vendor-lent;
-      offsets = offsets-back;
-      pieces = items-in-back (λ n. n < 4294967296) 4 (word 0) wordBytes wordsBytes refl (λ w ws. refl) (omega arith) (λ w. refl) word-back;
+      write = λ f e serial o lengths cut out signed small short. rw (offsets-back o signed, pieces-back lengths cut small short) (refl, refl);
     }

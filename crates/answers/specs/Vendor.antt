@@ -14,10 +14,10 @@ use Rattle.blocks.specs.declared.Offsets.{Offsets}
 use Rattle.blocks.specs.declared.Block.{Block}
 use Rattle.blocks.specs.declared.Vended.the-variants.{Tells}
 use Rattle.blocks.specs.Offset.{signedByte}
-use Rattle.blocks.specs.Vendor.{readVendor, piecesIn}
+use Rattle.blocks.specs.Vendor.{readVendor, writeVendor}
 use Rattle.records.specs.Packed.{packed}
 use Rattle.records.specs.Words.{wordsBytes}
-use Rattle.records.specs.Exports.{vendorReadCall, offsetsOf, vendorWriteCall}
+use Rattle.records.specs.Exports.{vendorReadCall, vendorWriteCall}
 use Rattle.promises.specs.Words.{IsRefused}
 use Rattle.promises.specs.Numbers.{imageNumbers}
 use Rattle.promises.specs.Payload.{SignedBytes}
@@ -85,7 +85,7 @@ pub record VendorFromC : Type 0 where
   pub unwritten : (f e : ℕ) (serial : List ℕ) (offsets : ℕ) (pieces out : List ℕ) → RefusedAnswer (vendorWriteCall f e serial offsets pieces out .answer) →
       vendorWriteCall f e serial offsets pieces out .memory ≡ out
   pub read : (f e : ℕ) (img buffer m : List ℕ) → VendorLent f e img buffer m
-  -- offsets that are laid out so are read as they are
-  pub offsets : (o : Offsets) → SignedBytes o → offsetsOf (offsetsWord o) ≡ o
-  -- so are piece lengths in words, each below 2^32; a last one that is cut short counts as none
-  pub pieces : (lengths cut : List ℕ) → Each (λ n. n < 4294967296) lengths → length cut < 4 → piecesIn (wordsBytes lengths ++ cut) ≡ lengths
+  -- where offsets and piece lengths are laid out so, each length below 2^32, the export answers as the call, and the output is the call's; a last length that is cut short counts as none
+  pub write : (f e : ℕ) (serial : List ℕ) (o : Offsets) (lengths cut out : List ℕ) → SignedBytes o → Each (λ n. n < 4294967296) lengths → length cut < 4 →
+      let g = vendorWriteCall f e serial (offsetsWord o) (wordsBytes lengths ++ cut) out in
+      (g .answer ≡ packed (tellsVendorWrite f e serial o lengths out)) × (g .memory ≡ writeVendor f e serial o lengths out .memory)
