@@ -5,7 +5,7 @@
  *
  * The image is an ONIE image. The payload lies in its vendor extensions, in one or in several, and
  * has the serial number of a USB-UART chip and the calibration of a dual-band amplifier. To compile
- * this program takes a header of edition 3 or later.
+ * this program takes a header of edition 3 or later, of version 3.1 or later.
  *
  * One line gives the file, the edition of the header, and how long the payload is; then come the
  * serial number and eight offsets in decibels. The serial number may be any bytes, and is printed
