@@ -1,5 +1,6 @@
 pub mod Calls
 pub mod Choices
+pub mod Years
 pub mod Coded
 pub mod Editing
 pub mod Fboss

@@ -27,11 +27,12 @@ use Rattle.layout.specs.declared.Located.the-variants.{Nowhere}
 use Rattle.layout.specs.declared.Made.{Made}
 use Rattle.layout.specs.declared.Made.the-variants.{Wrote, Unwritten}
 use Rattle.layout.specs.Bytes.{if, all, oneOf, sameBytes, part, highFirst, place, stringNumber, partAt, refusal}
+use Rattle.layout.specs.Calendar.{lastDay, isDay, isTime}
 use Rattle.layout.specs.Shape.{next, codedHead}
 use Rattle.layout.specs.Fboss.{fboss, fbossOpened, dateRule, fbossRule, fbossReading}
 use Rattle.layout.specs.Vpd.{vpd, groups, vpdHead, shortest, vpdReaderKey, vpdWriterKey, vpdRule, vpdTwice}
 use Rattle.layout.specs.Tiny.{tiny, tinyOpened, tinyHead, tinyLength, tinyRule, tinyReading}
-use Rattle.layout.specs.Onie.{onie, onieOpened, onieFilled, onieCheck, formed, onieRule, onieReading}
+use Rattle.layout.specs.Onie.{onie, onieOpened, onieFilled, onieCheck, formed, onieDateRule, onieRule, onieReading}
 use Rattle.layout.specs.Editions.{chosen, sinceIn, names, kind}
 use Rattle.layout.specs.Walk.{Content, content, walks, walk}
 use Rattle.layout.specs.Read.{sealed, seenBefore, readerRule, fault, judge, complete, Read, accepted, refused, readAs, readImage}
@@ -70,6 +71,15 @@ countFrom (suc n) a = a ∷ countFrom n (a + 1)
 -- the numbers a to b
 abbrev pub run : ℕ → ℕ → List ℕ
 run a b = countFrom (b + 1 - a) a
+
+-- n numbers, four apart, from a on
+abbrev pub fourths : ℕ → ℕ → List ℕ
+fourths zero a = []
+fourths (suc n) a = a ∷ fourths n (a + 4)
+
+-- a number below 100 as two digits
+abbrev pub digits : ℕ → List ℕ
+digits n = (n / 10 + 0x30) ∷ (n % 10 + 0x30) ∷ []
 
 -- a number as two bytes, high byte first
 abbrev pub two : ℕ → List ℕ
@@ -298,10 +308,10 @@ pub data Answer : Type 0 where
 -- what the definitions answer
 unfoldable pub given : Case → Answer
 unfolding check16Of check8Of check32Of mirror checkOf byteIn singleBit all oneOf sameBytes part highFirst next
-    codedHead fboss fbossOpened dateRule fbossRule fbossReading
+    codedHead lastDay isDay isTime fboss fbossOpened dateRule fbossRule fbossReading
     vpd groups vpdHead shortest vpdReaderKey vpdWriterKey vpdRule vpdTwice
     tiny tinyOpened tinyHead tinyLength tinyRule tinyReading
-    onie onieOpened onieFilled onieCheck formed onieRule onieReading
+    onie onieOpened onieFilled onieCheck formed onieDateRule onieRule onieReading
     chosen sinceIn names kind content walks walk sealed seenBefore readerRule fault judge complete readAs readImage
     entryOf entriesOf entriesIn checkImage listEntries nth entryAt valueAt stepFrom stringIn poolString stringAt toldReading
     items fieldsIn writerRule fieldFault judgeFields entryBytes entriesBytes imageOf put writeAs writeImage

@@ -5,13 +5,14 @@ use mathlib.Core.Path.{_≡_, refl}
 use mathlib.Core.List.{List, [], _∷_, map}
 use lib.ListN.{replicate}
 use Rattle.layout.specs.declared.Part.{Part}
-use Rattle.layout.specs.declared.Reading.the-variants.{Plain, Text, Number, Addresses, Numbered, Tests, Identified, Batched}
+use Rattle.layout.specs.declared.Reading.the-variants.{Plain, Text, Number, Addresses, Numbered, Tests, Identified, Batched, Dated, Timed}
 use Rattle.layout.specs.declared.Entry.{Entry}
 use Rattle.layout.specs.declared.Checked.the-variants.{Accepted}
 use Rattle.layout.specs.declared.Lookup.the-variants.{Found}
 use Rattle.layout.specs.declared.Located.the-variants.{At}
 use Rattle.layout.specs.declared.Made.the-variants.{Wrote}
 use Rattle.layout.specs.Bytes.{partAt, stringNumber, refusal}
+use Rattle.layout.specs.Calendar.{date, time}
 use Rattle.layout.specs.Calls.{Told, toldRefusal, told, toldChecked, toldLookup, toldLocated}
 use Rattle.layout.specs.Write.{toldMade}
 use Rattle.layout.proofs.Cases.{text, hex, run, sku, threeBytes, noTags, named, keyed, old, older, refuses, misses, nowhere, unwritten, checking}
@@ -111,6 +112,8 @@ cases =
     ∷ says (Tests 0x3B 3) (5 ∷ 0x3B ∷ 3 ∷ [])
     ∷ says (Identified (named 10 11 12 13 14 15)) (6 ∷ 10 ∷ 11 ∷ 12 ∷ 13 ∷ 14 ∷ 15 ∷ [])
     ∷ says (Batched (named 10 11 12 13 14 15) 9999) (7 ∷ 10 ∷ 11 ∷ 12 ∷ 13 ∷ 14 ∷ 15 ∷ 9999 ∷ [])
+    ∷ says (Dated (date 2024 2 29)) (8 ∷ 2024 ∷ 2 ∷ 29 ∷ [])
+    ∷ says (Timed (date 2024 2 29) (time 23 59 58)) (9 ∷ 2024 ∷ 2 ∷ 29 ∷ 23 ∷ 59 ∷ 58 ∷ [])
     -- a refusal has zero counts, an empty part at 0 and no entry
     ∷ tells (toldRefusal (refusal 7 19)) (saying 7 19 0 (partAt 0 0) [])
     ∷ tells (toldChecked (refuses 10 21)) (saying 10 21 0 (partAt 0 0) [])

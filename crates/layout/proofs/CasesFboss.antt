@@ -1,16 +1,17 @@
 -- Worked cases of FBOSS images, as one statement over a list (01, "FBOSS v5 (000)").
 -- Assumes nothing.
-use Prim.Native.Nat.{ℕ, _+_, _/_, _%_}
+use Prim.Native.Nat.{ℕ}
 use mathlib.Core.Path.{_≡_, refl}
 use mathlib.Core.List.{List, [], _∷_, _++_, map}
 use lib.ListN.{length, replicate}
-use Rattle.layout.specs.declared.Reading.the-variants.{Plain, Text, Number, Addresses}
+use Rattle.layout.specs.declared.Reading.the-variants.{Plain, Text, Number, Addresses, Dated}
 use Rattle.layout.specs.declared.Entry.{Entry}
 use Rattle.layout.specs.declared.Checked.the-variants.{Accepted}
 use Rattle.layout.specs.declared.Lookup.the-variants.{Found}
 use Rattle.layout.specs.declared.Located.the-variants.{At}
 use Rattle.layout.specs.Bytes.{partAt}
-use Rattle.layout.proofs.Cases.{text, hex, run, fbossOf, five, boardWith, withBlock, bare, refuses, misses, nowhere, checking, writing, naming}
+use Rattle.layout.specs.Calendar.{date}
+use Rattle.layout.proofs.Cases.{text, hex, run, digits, fourths, fbossOf, five, boardWith, withBlock, bare, refuses, misses, nowhere, checking, writing, naming}
 use Rattle.layout.proofs.Cases.{Case, check16, check8, checks, alike, sweeps, lists, finds, values, steps, given, wanted}
 
 -- an image with every code that edition 2 names, 1 to 20 in order: 16 entries that every edition names, and four address blocks
@@ -38,7 +39,7 @@ firstSixteen =
     ∷ bare 10 266 72 74 1 (Number 255)
     ∷ bare 11 267 75 77 2 Text
     ∷ bare 12 268 79 81 1 Text
-    ∷ bare 13 269 82 84 8 Text
+    ∷ bare 13 269 82 84 8 (Dated (date 2023 12 31))
     ∷ bare 14 270 92 94 1 Text
     ∷ bare 15 271 95 97 2 Text
     ∷ bare 16 272 99 101 3 Text
@@ -64,10 +65,6 @@ lone c v check = fbossOf (c ∷ length v ∷ v) check
 -- the header and the bytes of entries, with no end
 abbrev pub begun : List ℕ → List ℕ
 begun s = hex "FB FB 05 FF" ++ s
-
--- a number below 100 as two digits
-abbrev pub digits : ℕ → List ℕ
-digits n = (n / 10 + 0x30) ∷ (n % 10 + 0x30) ∷ []
 
 -- day n of December 2023
 abbrev pub day : ℕ → List ℕ
@@ -173,10 +170,17 @@ cases =
     ∷ checks 1 2 (lone 20 (hex "00 00 00 00 00 00 00 00 00") 0xB370) (refuses 7 4)
     -- 21 is unnamed: any value
     ∷ checks 1 1 (lone 21 (hex "7F") 0x52F5) (refuses 11 0)
-    -- the date
+    -- the date: a day of the Gregorian calendar, back to year 1
     ∷ checks 1 2 (lone 13 (text "20231231") 0x7C2D) (refuses 11 0)
-    ∷ checks 1 1 (lone 13 (text "00000101") 0xECAE) (refuses 11 0)
-    ∷ checks 1 2 (lone 13 (text "20230229") 0xB8A0) (refuses 11 0)
+    ∷ alike 1 (lone 13 (text "15821010") 0xF98F) (refuses 11 0)
+    ∷ alike 1 (lone 13 (text "20000229") 0xDD32) (refuses 11 0)
+    ∷ alike 1 (lone 13 (text "00040229") 0xDB92) (refuses 11 0)
+    ∷ alike 1 (lone 13 (text "00010101") 0x46FF) (refuses 11 0)
+    ∷ alike 1 (lone 13 (text "99991231") 0x0442) (refuses 11 0)
+    ∷ alike 1 (lone 13 (text "00000101") 0xECAE) (refuses 7 4)
+    ∷ alike 1 (lone 13 (text "20230229") 0xB8A0) (refuses 7 4)
+    ∷ alike 1 (lone 13 (text "19000229") 0x3E8B) (refuses 7 4)
+    ∷ alike 1 (lone 13 (text "20230231") 0x0A99) (refuses 7 4)
     ∷ checks 1 1 (lone 13 (text "20230001") 0x31AA) (refuses 7 4)
     ∷ checks 1 2 (lone 13 (text "20231300") 0x0E6F) (refuses 7 4)
     ∷ checks 1 1 (lone 13 (text "20231032") 0x222E) (refuses 7 4)
@@ -223,15 +227,23 @@ cases =
     ∷ sweeps 20 (λ n. writing 1 2 18 (replicate n 0x41)) 11 (8 ∷ [])
     ∷ sweeps 20 (λ n. writing 1 2 19 (replicate n 0x41)) 11 (8 ∷ [])
     ∷ sweeps 20 (λ n. writing 1 2 20 (replicate n 0x41)) 11 (8 ∷ [])
-    -- the months and days of a date; each of its bytes
+    -- the years, months and days of a date; each of its bytes
+    ∷ sweeps 100 (λ n. writing 1 1 13 (text "00" ++ digits n ++ text "0101")) 11 (run 1 99)
+    ∷ sweeps 100 (λ n. writing 1 1 13 (digits n ++ text "000101")) 11 (run 1 99)
     ∷ sweeps 100 (λ n. writing 1 1 13 (month n)) 11 (run 1 12)
     ∷ sweeps 100 (λ n. writing 1 1 13 (day n)) 11 (run 1 31)
+    ∷ sweeps 100 (λ n. writing 1 1 13 (text "202304" ++ digits n)) 11 (run 1 30)
+    ∷ sweeps 100 (λ n. writing 1 1 13 (text "202302" ++ digits n)) 11 (run 1 28)
+    ∷ sweeps 100 (λ n. writing 1 1 13 (text "202402" ++ digits n)) 11 (run 1 29)
+    ∷ sweeps 100 (λ n. writing 1 1 13 (digits n ++ text "000229")) 11 (fourths 24 4)
+    ∷ sweeps 100 (λ n. writing 1 1 13 (text "19" ++ digits n ++ text "0229")) 11 (fourths 24 4)
+    ∷ sweeps 100 (λ n. writing 1 1 13 (text "20" ++ digits n ++ text "0229")) 11 (fourths 25 0)
     ∷ sweeps 256 (λ b. writing 1 1 13 (b ∷ text "0231231")) 11 (run 0x30 0x39)
     ∷ sweeps 64 (λ b. writing 1 1 13 (text "2" ++ (b ∷ text "231231"))) 11 (run 0x30 0x39)
     ∷ sweeps 64 (λ b. writing 1 1 13 (text "20" ++ (b ∷ text "31231"))) 11 (run 0x30 0x39)
     ∷ sweeps 64 (λ b. writing 1 1 13 (text "202" ++ (b ∷ text "1231"))) 11 (run 0x30 0x39)
-    ∷ sweeps 64 (λ b. writing 1 1 13 (text "2023" ++ (b ∷ text "231"))) 11 (run 0x30 0x31)
-    ∷ sweeps 64 (λ b. writing 1 1 13 (text "20230" ++ (b ∷ text "31"))) 11 (run 0x31 0x39)
+    ∷ sweeps 64 (λ b. writing 1 1 13 (text "2023" ++ (b ∷ text "231"))) 11 (0x31 ∷ [])
+    ∷ sweeps 64 (λ b. writing 1 1 13 (text "20230" ++ (b ∷ text "31"))) 11 (0x31 ∷ 0x33 ∷ 0x35 ∷ 0x37 ∷ 0x38 ∷ [])
     ∷ sweeps 64 (λ b. writing 1 1 13 (text "202312" ++ (b ∷ text "1"))) 11 (run 0x30 0x33)
     ∷ sweeps 64 (λ b. writing 1 1 13 (text "2023121" ++ (b ∷ []))) 11 (run 0x30 0x39)
     -- the codes that each edition names: 13, and 14 for any other
@@ -244,6 +256,9 @@ cases =
     ∷ lists 1 2 everyCode (firstSixteen ++ fourBlocks)
     ∷ lists 1 3 everyCode (firstSixteen ++ fourBlocks)
     ∷ finds 1 2 everyCode 19 (Found (bare 20 276 134 136 8 (Addresses 0x020000000000 10)))
+    -- year, month and day of a date
+    ∷ finds 1 1 (boardWith 13 (text "00040229") 0x9275) 5 (Found (bare 13 269 19 21 8 (Dated (date 4 2 29))))
+    ∷ finds 1 3 (boardWith 13 (text "20231110") 0x1AD9) 5 (Found (bare 13 269 19 21 8 (Dated (date 2023 11 10))))
     -- codes that no edition names, with any value
     ∷ lists 1 2 (fbossOf (five ++ hex "15 00 F9 02 00 FF FB 01 FA FE 01 02") 0x3DB3)
     (bare 1 257 4 6 1 Text ∷ bare 8 264 7 9 1 (Number 5) ∷ bare 9 265 10 12 1 (Number 0) ∷ bare 10 266 13 15 1 (Number 1) ∷ bare 11 267 16 18 1 Text

@@ -1,4 +1,4 @@
--- Worked cases of ONIE images, as one statement over a list (02, "ONIE images and edition 3"; 003).
+-- Worked cases of ONIE images, as one statement over a list (02, "ONIE images and edition 3", "Real calendar days"; 003).
 -- Assumes nothing.
 use Prim.Native.Nat.{ℕ, _+_, _-_}
 use mathlib.Core.Path.{_≡_, refl}
@@ -7,7 +7,7 @@ use lib.ListN.{length, take, drop, replicate}
 use Rattle.layout.specs.declared.Reading.the-variants.{Plain}
 use Rattle.layout.specs.declared.Checked.the-variants.{Accepted}
 use Rattle.layout.specs.Write.{writeImage}
-use Rattle.layout.proofs.Cases.{text, hex, run, headed, onieAs, onieOf, noEntries, bare, field, refuses, madeNumber, checking, writing, naming}
+use Rattle.layout.proofs.Cases.{text, hex, run, digits, fourths, headed, onieAs, onieOf, noEntries, bare, field, refuses, madeNumber, checking, writing, naming}
 use Rattle.layout.proofs.Cases.{Case, check32, checks, sweeps, lists, given, wanted}
 
 -- five entries: a text, a number, one that is not named, and two FDh
@@ -32,11 +32,11 @@ abbrev pub longest : List ℕ
 longest = onieOf (seven ++ block (hex "7A 5D A8 6B") 241) (hex "72 AD F7 D5")
 
 -- a date, and the same with the byte b at place i
-abbrev pub date : List ℕ
-date = text "12/31/2023 23:59:58"
+abbrev pub stamp : List ℕ
+stamp = text "12/31/2023 23:59:58"
 
-abbrev pub dateWith : ℕ → ℕ → List ℕ
-dateWith i b = take i date ++ (b ∷ drop (i + 1) date)
+abbrev pub stampWith : ℕ → ℕ → List ℕ
+stampWith i b = take i stamp ++ (b ∷ drop (i + 1) stamp)
 
 -- the number of a write of two fields with this code and this value, into no bytes: 12 where nothing is wrong with them
 abbrev pub writingTwice : ℕ → List ℕ → ℕ
@@ -213,8 +213,16 @@ cases =
     ∷ checks 4 3 (onieOf (hex "FD 03 00 00 1F") (hex "36 35 23 68")) (refuses 7 11)
     ∷ checks 4 3 (onieOf (hex "FD 00") (hex "F0 1D B3 D3")) (refuses 7 11)
     ∷ checks 4 3 (onieOf (hex "FD 04 00 00 00 00 FD 03 00 00 00") (hex "97 B2 69 DF")) (refuses 7 17)
-    -- the date: 19 bytes, any digits
-    ∷ checks 4 3 (onieOf (hex "25 13" ++ text "99/99/9999 99:99:99") (hex "94 AC 2E 84")) (Accepted 1)
+    -- the date: 19 bytes, a day and a time of it
+    ∷ checks 4 3 (onieOf (hex "25 13" ++ text "12/31/9999 23:59:59") (hex "97 01 92 3E")) (Accepted 1)
+    ∷ checks 4 3 (onieOf (hex "25 13" ++ text "02/29/2000 00:00:00") (hex "1B 47 D8 32")) (Accepted 1)
+    ∷ checks 4 3 (onieOf (hex "25 13" ++ text "99/99/9999 99:99:99") (hex "94 AC 2E 84")) (refuses 7 11)
+    ∷ checks 4 3 (onieOf (hex "25 13" ++ text "02/29/1900 00:00:00") (hex "A4 6C 4D 0B")) (refuses 7 11)
+    ∷ checks 4 3 (onieOf (hex "25 13" ++ text "31/12/2023 23:59:58") (hex "F6 BC 8A C5")) (refuses 7 11)
+    ∷ checks 4 3 (onieOf (hex "25 13" ++ text "12/31/0000 23:59:58") (hex "54 DB 20 5F")) (refuses 7 11)
+    ∷ checks 4 3 (onieOf (hex "25 13" ++ text "12/31/2023 24:00:00") (hex "C3 04 44 59")) (refuses 7 11)
+    ∷ checks 4 3 (onieOf (hex "25 13" ++ text "12/31/2023 23:60:00") (hex "C4 B5 1C AA")) (refuses 7 11)
+    ∷ checks 4 3 (onieOf (hex "25 13" ++ text "12/31/2023 23:59:60") (hex "F7 39 08 23")) (refuses 7 11)
     ∷ checks 4 3 (onieOf (hex "25 12" ++ text "12/31/2023 23:59:5") (hex "5A CB 38 67")) (refuses 7 11)
     ∷ checks 4 3 (onieOf (hex "25 14" ++ text "12/31/2023 23:59:588") (hex "36 73 B6 12")) (refuses 7 11)
     ∷ checks 4 3 (onieOf (hex "25 13" ++ text "12-31-2023 23:59:58") (hex "18 8B D5 E7")) (refuses 7 11)
@@ -235,7 +243,7 @@ cases =
     ∷ sweeps 300 (λ c. writing 4 3 c (hex "00 00 00")) 12 []
     ∷ sweeps 300 (λ c. writing 4 3 c (hex "00 00 00 00")) 12 (0xFD ∷ [])
     ∷ sweeps 300 (λ c. writing 4 3 c (hex "00 00 00 00 00 00")) 12 (0x24 ∷ 0xFD ∷ [])
-    ∷ sweeps 300 (λ c. writing 4 3 c date) 12 (0x21 ∷ 0x22 ∷ 0x23 ∷ 0x25 ∷ 0x2B ∷ 0x2D ∷ 0xFD ∷ [])
+    ∷ sweeps 300 (λ c. writing 4 3 c stamp) 12 (0x21 ∷ 0x22 ∷ 0x23 ∷ 0x25 ∷ 0x2B ∷ 0x2D ∷ 0xFD ∷ [])
     -- the bytes of text, and of two capitals
     ∷ sweeps 256 (λ b. writing 4 3 0x21 (b ∷ [])) 12 (run 0x20 0x7E)
     ∷ sweeps 256 (λ b. writing 4 3 0x22 (0x41 ∷ b ∷ [])) 12 (run 0x20 0x7E)
@@ -249,7 +257,7 @@ cases =
     ∷ sweeps 20 (λ n. writing 4 3 0x22 (replicate n 0x41)) 12 (run 0 19)
     ∷ sweeps 20 (λ n. writing 4 3 0x23 (replicate n 0x41)) 12 (run 0 19)
     ∷ sweeps 20 (λ n. writing 4 3 0x24 (replicate n 0x41)) 12 (6 ∷ [])
-    ∷ sweeps 24 (λ n. writing 4 3 0x25 (take n (date ++ text "00000"))) 12 (19 ∷ [])
+    ∷ sweeps 24 (λ n. writing 4 3 0x25 (take n (stamp ++ text "00000"))) 12 (19 ∷ [])
     ∷ sweeps 20 (λ n. writing 4 3 0x2A (replicate n 0x41)) 12 (2 ∷ [])
     ∷ sweeps 20 (λ n. writing 4 3 0x2B (replicate n 0x41)) 12 (run 0 19)
     ∷ sweeps 20 (λ n. writing 4 3 0x2C (replicate n 0x41)) 12 (2 ∷ [])
@@ -259,26 +267,36 @@ cases =
     ∷ sweeps 256 (λ b. writing 4 3 0x24 (replicate 6 b)) 12 (run 0 255)
     ∷ sweeps 256 (λ b. writing 4 3 0x2A (replicate 2 b)) 12 (run 0 255)
     ∷ sweeps 256 (λ b. writing 4 3 0xFD (replicate 4 b)) 12 (run 0 255)
+    -- month, day, hour, minute and second of a date
+    ∷ sweeps 100 (λ n. writing 4 3 0x25 (digits n ++ text "/15/2023 23:59:58")) 12 (run 1 12)
+    ∷ sweeps 100 (λ n. writing 4 3 0x25 (text "12/" ++ digits n ++ text "/2023 23:59:58")) 12 (run 1 31)
+    ∷ sweeps 100 (λ n. writing 4 3 0x25 (text "04/" ++ digits n ++ text "/2023 23:59:58")) 12 (run 1 30)
+    ∷ sweeps 100 (λ n. writing 4 3 0x25 (text "02/" ++ digits n ++ text "/2024 23:59:58")) 12 (run 1 29)
+    ∷ sweeps 100 (λ n. writing 4 3 0x25 (text "02/29/" ++ digits n ++ text "00 23:59:58")) 12 (fourths 24 4)
+    ∷ sweeps 100 (λ n. writing 4 3 0x25 (text "02/29/19" ++ digits n ++ text " 23:59:58")) 12 (fourths 24 4)
+    ∷ sweeps 100 (λ n. writing 4 3 0x25 (text "12/31/2023 " ++ digits n ++ text ":59:58")) 12 (run 0 23)
+    ∷ sweeps 100 (λ n. writing 4 3 0x25 (text "12/31/2023 23:" ++ digits n ++ text ":58")) 12 (run 0 59)
+    ∷ sweeps 100 (λ n. writing 4 3 0x25 (text "12/31/2023 23:59:" ++ digits n)) 12 (run 0 59)
     -- each byte of a date
-    ∷ sweeps 256 (λ b. writing 4 3 0x25 (dateWith 0 b)) 12 (run 0x30 0x39)
-    ∷ sweeps 64 (λ b. writing 4 3 0x25 (dateWith 1 b)) 12 (run 0x30 0x39)
-    ∷ sweeps 64 (λ b. writing 4 3 0x25 (dateWith 2 b)) 12 (0x2F ∷ [])
-    ∷ sweeps 64 (λ b. writing 4 3 0x25 (dateWith 3 b)) 12 (run 0x30 0x39)
-    ∷ sweeps 64 (λ b. writing 4 3 0x25 (dateWith 4 b)) 12 (run 0x30 0x39)
-    ∷ sweeps 64 (λ b. writing 4 3 0x25 (dateWith 5 b)) 12 (0x2F ∷ [])
-    ∷ sweeps 64 (λ b. writing 4 3 0x25 (dateWith 6 b)) 12 (run 0x30 0x39)
-    ∷ sweeps 64 (λ b. writing 4 3 0x25 (dateWith 7 b)) 12 (run 0x30 0x39)
-    ∷ sweeps 64 (λ b. writing 4 3 0x25 (dateWith 8 b)) 12 (run 0x30 0x39)
-    ∷ sweeps 64 (λ b. writing 4 3 0x25 (dateWith 9 b)) 12 (run 0x30 0x39)
-    ∷ sweeps 64 (λ b. writing 4 3 0x25 (dateWith 10 b)) 12 (0x20 ∷ [])
-    ∷ sweeps 64 (λ b. writing 4 3 0x25 (dateWith 11 b)) 12 (run 0x30 0x39)
-    ∷ sweeps 64 (λ b. writing 4 3 0x25 (dateWith 12 b)) 12 (run 0x30 0x39)
-    ∷ sweeps 64 (λ b. writing 4 3 0x25 (dateWith 13 b)) 12 (0x3A ∷ [])
-    ∷ sweeps 64 (λ b. writing 4 3 0x25 (dateWith 14 b)) 12 (run 0x30 0x39)
-    ∷ sweeps 64 (λ b. writing 4 3 0x25 (dateWith 15 b)) 12 (run 0x30 0x39)
-    ∷ sweeps 64 (λ b. writing 4 3 0x25 (dateWith 16 b)) 12 (0x3A ∷ [])
-    ∷ sweeps 64 (λ b. writing 4 3 0x25 (dateWith 17 b)) 12 (run 0x30 0x39)
-    ∷ sweeps 64 (λ b. writing 4 3 0x25 (dateWith 18 b)) 12 (run 0x30 0x39)
+    ∷ sweeps 256 (λ b. writing 4 3 0x25 (stampWith 0 b)) 12 (0x31 ∷ [])
+    ∷ sweeps 64 (λ b. writing 4 3 0x25 (stampWith 1 b)) 12 (0x30 ∷ 0x32 ∷ [])
+    ∷ sweeps 64 (λ b. writing 4 3 0x25 (stampWith 2 b)) 12 (0x2F ∷ [])
+    ∷ sweeps 64 (λ b. writing 4 3 0x25 (stampWith 3 b)) 12 (run 0x30 0x33)
+    ∷ sweeps 64 (λ b. writing 4 3 0x25 (stampWith 4 b)) 12 (0x30 ∷ 0x31 ∷ [])
+    ∷ sweeps 64 (λ b. writing 4 3 0x25 (stampWith 5 b)) 12 (0x2F ∷ [])
+    ∷ sweeps 64 (λ b. writing 4 3 0x25 (stampWith 6 b)) 12 (run 0x30 0x39)
+    ∷ sweeps 64 (λ b. writing 4 3 0x25 (stampWith 7 b)) 12 (run 0x30 0x39)
+    ∷ sweeps 64 (λ b. writing 4 3 0x25 (stampWith 8 b)) 12 (run 0x30 0x39)
+    ∷ sweeps 64 (λ b. writing 4 3 0x25 (stampWith 9 b)) 12 (run 0x30 0x39)
+    ∷ sweeps 64 (λ b. writing 4 3 0x25 (stampWith 10 b)) 12 (0x20 ∷ [])
+    ∷ sweeps 64 (λ b. writing 4 3 0x25 (stampWith 11 b)) 12 (run 0x30 0x32)
+    ∷ sweeps 64 (λ b. writing 4 3 0x25 (stampWith 12 b)) 12 (run 0x30 0x33)
+    ∷ sweeps 64 (λ b. writing 4 3 0x25 (stampWith 13 b)) 12 (0x3A ∷ [])
+    ∷ sweeps 64 (λ b. writing 4 3 0x25 (stampWith 14 b)) 12 (run 0x30 0x35)
+    ∷ sweeps 64 (λ b. writing 4 3 0x25 (stampWith 15 b)) 12 (run 0x30 0x39)
+    ∷ sweeps 64 (λ b. writing 4 3 0x25 (stampWith 16 b)) 12 (0x3A ∷ [])
+    ∷ sweeps 64 (λ b. writing 4 3 0x25 (stampWith 17 b)) 12 (run 0x30 0x35)
+    ∷ sweeps 64 (λ b. writing 4 3 0x25 (stampWith 18 b)) 12 (run 0x30 0x39)
     -- ---- 8: at the second, for every named code but FDh; what is not named may repeat
     ∷ checks 4 3 (onieOf (hex "21 00 21 00") (hex "BF AB 52 4C")) (refuses 8 13)
     ∷ checks 4 3 (onieOf (hex "22 00 21 00 22 01 41") (hex "13 C8 42 B4")) (refuses 8 15)
@@ -296,7 +314,7 @@ cases =
     ∷ sweeps 300 (λ c. writingTwice c (text "CZ")) 8 (0x21 ∷ 0x22 ∷ 0x23 ∷ run 0x2A 0x2D)
     ∷ sweeps 300 (λ c. writingTwice c (hex "00 00 00 00 00 00")) 8 (0x24 ∷ [])
     ∷ sweeps 300 (λ c. writingTwice c (hex "00 00 00 00 00 00")) 12 (0xFD ∷ [])
-    ∷ sweeps 300 (λ c. writingTwice c date) 8 (0x21 ∷ 0x22 ∷ 0x23 ∷ 0x25 ∷ 0x2B ∷ 0x2D ∷ [])
+    ∷ sweeps 300 (λ c. writingTwice c stamp) 8 (0x21 ∷ 0x22 ∷ 0x23 ∷ 0x25 ∷ 0x2B ∷ 0x2D ∷ [])
     -- 7 before 8, and one entry before the next
     ∷ checks 4 3 (onieOf (hex "21 01 41 21 01 7F") (hex "B2 BB 6F 3F")) (refuses 7 14)
     ∷ checks 4 3 (onieOf (hex "21 00 21 00 22 01 7F") (hex "04 B0 B6 EB")) (refuses 8 13)

@@ -4,7 +4,7 @@ use Prim.Native.Nat.{ℕ}
 use mathlib.Core.Path.{_≡_, refl}
 use mathlib.Core.List.{List, [], _∷_, _++_, map}
 use lib.ListN.{replicate}
-use Rattle.layout.specs.declared.Reading.the-variants.{Plain, Text, Number, Addresses}
+use Rattle.layout.specs.declared.Reading.the-variants.{Plain, Text, Number, Addresses, Timed}
 use Rattle.layout.specs.declared.Entry.{Entry}
 use Rattle.layout.specs.declared.Field.{Field}
 use Rattle.layout.specs.declared.Checked.the-variants.{Accepted}
@@ -12,13 +12,14 @@ use Rattle.layout.specs.declared.Lookup.the-variants.{Found}
 use Rattle.layout.specs.declared.Located.the-variants.{At}
 use Rattle.layout.specs.declared.Made.the-variants.{Wrote}
 use Rattle.layout.specs.Bytes.{partAt, refusal}
+use Rattle.layout.specs.Calendar.{date, time}
 use Rattle.layout.specs.Write.{writeImage}
 use Rattle.layout.specs.Edit.{editEntry}
 use Rattle.layout.proofs.Cases.{text, hex, run, headed, onieAs, onieOf, noEntries, bare, field, keyedField, refuses, misses, nowhere, unwritten}
 use Rattle.layout.proofs.Cases.{old, older, sayingBare, madeNumber, checking}
 use Rattle.layout.proofs.Cases.{Case, checks, numbers, sweeps, lists, fills, entries, finds, values, strings, steps}
 use Rattle.layout.proofs.Cases.{writes, edits, unwrites, unedits, rounds, given, wanted}
-use Rattle.layout.proofs.CasesOnie.{board, block, longest, date}
+use Rattle.layout.proofs.CasesOnie.{board, block, longest, stamp}
 
 -- an image with every code that edition 3 names, those beside them, and 003's example of a second FDh
 abbrev pub everyCode : List ℕ
@@ -32,7 +33,7 @@ everyRecord =
     ∷ bare 0x22 1058 19 21 3 Text
     ∷ bare 0x23 1059 24 26 2 Text
     ∷ bare 0x24 1060 28 30 6 (Addresses 0x0123456789AB 1)
-    ∷ bare 0x25 1061 36 38 19 Text
+    ∷ bare 0x25 1061 36 38 19 (Timed (date 2023 12 31) (time 23 59 58))
     ∷ bare 0x26 0 57 59 1 Plain
     ∷ bare 0x27 0 60 62 2 Plain
     ∷ bare 0x28 0 64 66 0 Plain
@@ -131,6 +132,7 @@ cases =
     ∷ fills 4 3 (onieOf (hex "21 01 7F") (hex "FB 04 EB 51")) (old ∷ []) (refuses 7 11) (old ∷ [])
     -- entry, value and step: the first, in the middle, the last and past it; a refused image
     ∷ finds 4 3 board 0 (Found (bare 0x21 1057 11 13 1 Text))
+    ∷ finds 4 3 (onieOf (hex "25 13" ++ text "01/02/0003 04:05:06") (hex "D2 04 35 0D")) 0 (Found (bare 0x25 1061 11 13 19 (Timed (date 3 1 2) (time 4 5 6))))
     ∷ finds 4 3 board 2 (Found (bare 0x99 0 18 20 2 Plain))
     ∷ finds 4 3 board 4 (Found (bare 0xFD 1277 28 30 4 Plain))
     ∷ finds 4 3 board 5 (misses 13 0)
@@ -154,8 +156,8 @@ cases =
     -- in list order; a key counts as empty
     ∷ writes 4 3 (field 0x2C 0 2 ∷ keyedField 0x21 99 99 2 3 ∷ field 0xFD 1 4 ∷ field 0x2A 3 2 ∷ field 0xFD 0 5 ∷ []) (text "CZabc") (replicate 44 7) (Wrote 43)
     (onieOf (hex "2C 02 43 5A 21 03 61 62 63 FD 04 5A 61 62 63 2A 02 62 63 FD 05 43 5A 61 62 63") (hex "B1 B5 34 5D") ++ hex "FF")
-    ∷ rounds 4 3 (field 0x25 0 19 ∷ field 0x24 3 6 ∷ field 0x2D 19 0 ∷ []) date 60
-    (sayingBare 0x25 date ∷ sayingBare 0x24 (text "31/202") ∷ sayingBare 0x2D [] ∷ [])
+    ∷ rounds 4 3 (field 0x25 0 19 ∷ field 0x24 3 6 ∷ field 0x2D 19 0 ∷ []) stamp 60
+    (sayingBare 0x25 stamp ∷ sayingBare 0x24 (text "31/202") ∷ sayingBare 0x2D [] ∷ [])
     -- a value of 255 bytes: the declared length is 263. One more is 7
     ∷ writes 4 3 (field 0xFD 0 255 ∷ []) ((hex "E2 96 80 93") ++ replicate 251 0) (replicate 275 7) (Wrote 274) (onieOf (block (hex "E2 96 80 93") 255) (hex "72 AD F7 D5") ++ hex "FF")
     ∷ unwrites 4 3 (field 0x21 0 255 ∷ []) (replicate 255 0x41) 273 (refusal 12 0)

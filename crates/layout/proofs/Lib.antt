@@ -1,4 +1,5 @@
 pub mod Cases
+pub mod CasesCalendar
 pub mod CasesFboss
 pub mod CasesVpd
 pub mod CasesTiny

@@ -7,7 +7,7 @@ use lib.ListN.{length, drop}
 use lib.Dec.{ltb, leb, eqb}
 use Rattle.layout.specs.declared.Part.{Part}
 use Rattle.layout.specs.declared.Reading.{Reading}
-use Rattle.layout.specs.declared.Reading.the-variants.{Plain, Text, Number, Addresses, Numbered, Tests, Identified, Batched}
+use Rattle.layout.specs.declared.Reading.the-variants.{Plain, Text, Number, Addresses, Numbered, Tests, Identified, Batched, Dated, Timed}
 use Rattle.layout.specs.declared.Entry.{Entry}
 use Rattle.layout.specs.declared.Refusal.{Refusal}
 use Rattle.layout.specs.declared.Checked.{Checked}
@@ -172,7 +172,7 @@ stringAt f e img number = if (eqb f 3) (λ _. stringBy (readImage f e img) numbe
 -- ---- what an answer says
 
 -- a reading's number, and the numbers that it carries: 0 plain bytes, 1 text, 2 number, 3 address block (the base's high 16 and low 32 bits, the count),
--- 4 string number, 5 test flags (the byte, the tests passed), 6 identity, 7 identity with batch
+-- 4 string number, 5 test flags (the byte, the tests passed), 6 identity, 7 identity with batch, 8 date, 9 date with time
 unfoldable pub toldReading : Reading → List ℕ
 toldReading Plain = 0 ∷ []
 toldReading Text = 1 ∷ []
@@ -182,6 +182,8 @@ toldReading (Numbered s) = 4 ∷ s .0 ∷ []
 toldReading (Tests byte n) = 5 ∷ byte ∷ n ∷ []
 toldReading (Identified x) = 6 ∷ x .serial .0 ∷ x .part .0 ∷ x .major ∷ x .minor ∷ x .free0 ∷ x .free1 ∷ []
 toldReading (Batched x batch) = 7 ∷ x .serial .0 ∷ x .part .0 ∷ x .major ∷ x .minor ∷ x .free0 ∷ x .free1 ∷ batch ∷ []
+toldReading (Dated d) = 8 ∷ d .year ∷ d .month ∷ d .day ∷ []
+toldReading (Timed d t) = 9 ∷ d .year ∷ d .month ∷ d .day ∷ t .hour ∷ t .minute ∷ t .second ∷ []
 
 -- 01's "Numbers given back": a number (0 where nothing is refused), a place, a count, a part, and the entries that are given.
 -- A refusal has zero counts, an empty part and no entry

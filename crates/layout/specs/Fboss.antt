@@ -1,4 +1,4 @@
--- FBOSS v5 (01, "FBOSS v5 (000)").
+-- FBOSS v5 (01, "FBOSS v5 (000)"; 02, "Real calendar days").
 -- Assumes nothing.
 use Prim.Native.Nat.{ℕ, _+_, _*_, _-_, _/_, _%_}
 use mathlib.Core.List.{List, [], _∷_}
@@ -9,8 +9,10 @@ use Rattle.crc.specs.Crc.{check16Of}
 use Rattle.layout.specs.declared.Opened.{Opened}
 use Rattle.layout.specs.declared.Opened.the-variants.{Room, Closed}
 use Rattle.layout.specs.declared.Reading.{Reading}
-use Rattle.layout.specs.declared.Reading.the-variants.{Text, Number, Addresses}
+use Rattle.layout.specs.declared.Reading.the-variants.{Text, Number, Addresses, Dated}
+use Rattle.layout.specs.declared.Date.{Date}
 use Rattle.layout.specs.Bytes.{if, between, all, oneOf, highFirst, refusal, part}
+use Rattle.layout.specs.Calendar.{isDay, date}
 use Rattle.layout.specs.Shape.{Shape, naming, fine, Coded, coded}
 
 -- FB FB 05 FF; the entries have room to the image's end
@@ -34,9 +36,17 @@ digit b = between 0x30 0x39 b
 abbrev pub twoDigits : ℕ → List ℕ → ℕ
 twoDigits i v = (getD v i 0 - 0x30) * 10 + (getD v (i + 1) 0 - 0x30)
 
--- eight digits YYYYMMDD, month 01 to 12, day 01 to 31
+-- and four digits
+abbrev pub fourDigits : ℕ → List ℕ → ℕ
+fourDigits i v = twoDigits i v * 100 + twoDigits (i + 2) v
+
+-- what eight digits YYYYMMDD show
+abbrev pub fbossDate : List ℕ → Date
+fbossDate v = date (fourDigits 0 v) (twoDigits 4 v) (twoDigits 6 v)
+
+-- eight digits that show a day
 unfoldable pub dateRule : List ℕ → Bool
-dateRule v = eqb (length v) 8 && all digit v && between 1 12 (twoDigits 4 v) && between 1 31 (twoDigits 6 v)
+dateRule v = eqb (length v) 8 && all digit v && isDay (fbossDate v)
 
 unfoldable pub fbossRule : ℕ → List ℕ → Bool
 fbossRule c v =
@@ -52,7 +62,8 @@ unfoldable pub fbossReading : ℕ → List ℕ → Reading
 fbossReading c v =
     if (between 8 10 c) (λ _. Number (getD v 0 0))
     (λ _. if (between 17 20 c) (λ _. Addresses (highFirst 0 (part 0 6 v)) (highFirst 0 (part 6 2 v)))
-    (λ _. Text))
+    (λ _. if (eqb c 13) (λ _. Dated (fbossDate v))
+    (λ _. Text)))
 
 -- the check's two bytes, high byte first
 abbrev pub fbossCheck : List ℕ → List ℕ

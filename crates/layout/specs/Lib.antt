@@ -1,4 +1,6 @@
 pub mod Bytes
+pub mod Calendar
+pub mod Years
 pub mod Shape
 pub mod Fboss
 pub mod Vpd

@@ -1,4 +1,4 @@
--- ONIE (02, "ONIE images and edition 3"; 003).
+-- ONIE (02, "ONIE images and edition 3", "Real calendar days"; 003).
 -- Assumes nothing.
 use Prim.Native.Nat.{ℕ, _+_, _*_, _/_, _%_}
 use mathlib.Core.List.{List, [], _∷_, _++_}
@@ -9,10 +9,13 @@ use Rattle.crc.specs.Crc.{check32Of}
 use Rattle.layout.specs.declared.Opened.{Opened}
 use Rattle.layout.specs.declared.Opened.the-variants.{Room, Closed}
 use Rattle.layout.specs.declared.Reading.{Reading}
-use Rattle.layout.specs.declared.Reading.the-variants.{Plain, Text, Number, Addresses}
+use Rattle.layout.specs.declared.Reading.the-variants.{Plain, Text, Number, Addresses, Timed}
+use Rattle.layout.specs.declared.Date.{Date}
+use Rattle.layout.specs.declared.Time.{Time}
 use Rattle.layout.specs.Bytes.{if, between, all, oneOf, sameBytes, part, highFirst, refusal}
+use Rattle.layout.specs.Calendar.{isDay, isTime, date, time}
 use Rattle.layout.specs.Shape.{Shape, naming, fine, faulty, Judged, Coded, coded}
-use Rattle.layout.specs.Fboss.{printable, digit}
+use Rattle.layout.specs.Fboss.{printable, digit, twoDigits, fourDigits}
 
 -- the eight bytes TlvInfo and a zero, which every header begins with
 abbrev pub tlvInfo : List ℕ
@@ -67,6 +70,17 @@ abbrev pub dateForm : List ℕ
 dateForm =
     0x30 ∷ 0x30 ∷ 0x2F ∷ 0x30 ∷ 0x30 ∷ 0x2F ∷ 0x30 ∷ 0x30 ∷ 0x30 ∷ 0x30 ∷ 0x20 ∷ 0x30 ∷ 0x30 ∷ 0x3A ∷ 0x30 ∷ 0x30 ∷ 0x3A ∷ 0x30 ∷ 0x30 ∷ []
 
+-- what MM/DD/YYYY HH:NN:SS shows: the date, and the time
+abbrev pub onieDate : List ℕ → Date
+onieDate v = date (fourDigits 6 v) (twoDigits 0 v) (twoDigits 3 v)
+
+abbrev pub onieTime : List ℕ → Time
+onieTime v = time (twoDigits 11 v) (twoDigits 14 v) (twoDigits 17 v)
+
+-- bytes of this form that show a day and a time of it
+unfoldable pub onieDateRule : List ℕ → Bool
+onieDateRule v = formed dateForm v && isDay (onieDate v) && isTime (onieTime v)
+
 abbrev pub capital : ℕ → Bool
 capital b = between 0x41 0x5A b
 
@@ -74,7 +88,7 @@ unfoldable pub onieRule : ℕ → List ℕ → Bool
 onieRule c v =
     if (oneOf (0x21 ∷ 0x22 ∷ 0x23 ∷ 0x2B ∷ 0x2D ∷ []) c) (λ _. all printable v)
     (λ _. if (eqb c 0x24) (λ _. eqb (length v) 6)
-    (λ _. if (eqb c 0x25) (λ _. formed dateForm v)
+    (λ _. if (eqb c 0x25) (λ _. onieDateRule v)
     (λ _. if (eqb c 0x2A) (λ _. eqb (length v) 2)
     (λ _. if (eqb c 0x2C) (λ _. eqb (length v) 2 && all capital v)
     (λ _. if (eqb c 0xFD) (λ _. leb 4 (length v))
@@ -85,7 +99,8 @@ onieReading c v =
     if (eqb c 0x24) (λ _. Addresses (highFirst 0 (part 0 6 v)) 1)
     (λ _. if (eqb c 0x2A) (λ _. Number (highFirst 0 (part 0 2 v)))
     (λ _. if (eqb c 0xFD) (λ _. Plain)
-    (λ _. Text)))
+    (λ _. if (eqb c 0x25) (λ _. Timed (onieDate v) (onieTime v))
+    (λ _. Text))))
 
 -- code FEh with length 4 ends the image, and its value is the check. An FDh may come again
 abbrev pub onieCoded : Coded

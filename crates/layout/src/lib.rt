@@ -36,6 +36,20 @@ pub struct Identity {
     pub free1: u8,
 }
 
+// 02's term "date": year, month and day of the Gregorian calendar.
+pub struct Date {
+    pub year: u32,
+    pub month: u32,
+    pub day: u32,
+}
+
+// The time of a date with time.
+pub struct Time {
+    pub hour: u32,
+    pub minute: u32,
+    pub second: u32,
+}
+
 // 01's term "reading": what an entry's value means.
 pub enum Reading {
     // any bytes
@@ -52,6 +66,9 @@ pub enum Reading {
     Identified(Identity),
     // an identity with batch: the batch number comes last
     Batched(Identity, u32),
+    Dated(Date),
+    // a date with time
+    Timed(Date, Time),
 }
 
 // 01's term "entry record".
