@@ -1,10 +1,8 @@
 // FBOSS v5: its header, its rules and readings, and its check.
 ghost use mathlib.Core.Path.{_≡_};
-ghost use mathlib.Core.Bool.{_&&_};
-ghost use Prim.Native.Nat.{_+_, _*_, _-_};
-ghost use Rattle.layout.specs.Fboss.{fboss, fbossOpened, dateRule, fbossRule, fbossReading};
-ghost use Rattle.layout.specs.Bytes.{between};
+ghost use Rattle.layout.specs.Fboss.{fboss, fbossOpened, fbossDate, dateRule, fbossRule, fbossReading};
 ghost use Rattle.layout.specs.Read.{sealed};
+use layout::Date;
 use layout::Opened;
 use layout::Reading;
 
@@ -36,36 +34,18 @@ pub fn fboss_opened(image: &[u8]) -> Opened
     Opened::Room(4, image.len())
 }
 
-// The number that a digit shows.
-fn digit_value(x: u8) -> u32
-    ensures { λ r. ⌜ r ≡ x - 0x30 ⌝ }
+// What eight digits YYYYMMDD show.
+fn fboss_date(v: &[u8]) -> Date
+    ensures { λ r. ⌜ r ≡ fbossDate (now (v .entry)) ⌝ }
 {
-    if x < 0x30 { 0 } else { wide(x - 0x30) }
+    Date {
+        year: calendar::four_digits(v, 0),
+        month: calendar::two_digits(v, 4),
+        day: calendar::two_digits(v, 6),
+    }
 }
 
-// The number that two digits show.
-fn two_digits(x: u8, y: u8) -> u32
-    ensures { λ r. ⌜ r ≡ (x - 0x30) * 10 + (y - 0x30) ⌝ }
-{
-    digit_value(x) * 10 + digit_value(y)
-}
-
-// Whether the month is 1 to 12 and the day 1 to 31.
-fn in_calendar(month: u32, day: u32) -> bool
-    ensures { λ r. ⌜ r ≡ (between 1 12 month && between 1 31 day) ⌝ }
-{
-    if month < 1 {
-        return false;
-    }
-    if 12 < month {
-        return false;
-    }
-    if day < 1 {
-        return false;
-    }
-    day <= 31
-}
-
+// Whether a value is eight digits that show a day.
 fn date_rule(v: &[u8]) -> bool
     ensures { λ r. ⌜ r ≡ dateRule (now (v .entry)) ⌝ }
 {
@@ -73,7 +53,7 @@ fn date_rule(v: &[u8]) -> bool
         return false;
     }
     if parts::all_between(v, 0x30, 0x39) {
-        in_calendar(two_digits(v[4], v[5]), two_digits(v[6], v[7]))
+        calendar::is_day(fboss_date(v))
     } else {
         false
     }
@@ -106,6 +86,9 @@ pub fn fboss_rule(code: u32, v: &[u8]) -> bool
 pub fn fboss_reading(code: u32, v: &[u8]) -> Reading
     ensures { λ r. ⌜ r ≡ fbossReading code (now (v .entry)) ⌝ }
 {
+    if code == 13 {
+        return Reading::Dated(fboss_date(v));
+    }
     match code {
         8 | 9 | 10 => {
             if v.len() <= 0 {

@@ -28,21 +28,11 @@ pub fn byte_of(z: i8) -> u8
     255 - n as u8
 }
 
-// Byte i, and 0 where it is not there.
-pub fn byte_at(s: &[u8], i: usize) -> u8
-    ensures { λ r. ⌜ r ≡ getD (now (s .entry)) i 0 ⌝ }
-{
-    if i < s.len() {
-        return s[i];
-    }
-    0
-}
-
 // The number that byte i says, which counts as 0 where it is not there.
 fn offset_at(s: &[u8], i: usize) -> i8
     ensures { λ r. ⌜ r ≡ signed (getD (now (s .entry)) i 0) ⌝ }
 {
-    offset_of(byte_at(s, i))
+    offset_of(parts::byte_at(s, i))
 }
 
 // The eight offsets that the first eight bytes say; a byte that is not there counts as 0.

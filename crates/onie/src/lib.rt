@@ -7,10 +7,12 @@ ghost use lib.Dec.{eqb};
 ghost use lib.ListN.{length, getD};
 ghost use Rattle.layout.specs.Bytes.{if, all, oneOf, sameBytes, part};
 ghost use Rattle.layout.specs.Shape.{fine, faulty};
-ghost use Rattle.layout.specs.Onie.{onie, tlvInfo, declared, onieOpened, onieFilled, fitsForm, formed, dateForm, capital, onieRule, onieReading};
+ghost use Rattle.layout.specs.Onie.{onie, tlvInfo, declared, onieOpened, onieFilled, fitsForm, formed, dateForm, onieDate, onieTime, onieDateRule, capital, onieRule, onieReading};
 ghost use Rattle.layout.specs.Read.{sealed};
+use layout::Date;
 use layout::Opened;
 use layout::Reading;
+use layout::Time;
 
 // TlvInfo and a zero, which every header begins with.
 pub const TLV_INFO: [u8; 8] = [0x54, 0x6C, 0x76, 0x49, 0x6E, 0x66, 0x6F, 0x00];
@@ -117,12 +119,40 @@ fn is_formed(form: &[u8], v: &[u8]) -> bool
     true
 }
 
-// MM/DD/YYYY HH:NN:SS, any digits.
+// The date that MM/DD/YYYY HH:NN:SS shows.
+fn onie_date(v: &[u8]) -> Date
+    ensures { λ r. ⌜ r ≡ onieDate (now (v .entry)) ⌝ }
+{
+    Date {
+        year: calendar::four_digits(v, 6),
+        month: calendar::two_digits(v, 0),
+        day: calendar::two_digits(v, 3),
+    }
+}
+
+// And the time.
+fn onie_time(v: &[u8]) -> Time
+    ensures { λ r. ⌜ r ≡ onieTime (now (v .entry)) ⌝ }
+{
+    Time {
+        hour: calendar::two_digits(v, 11),
+        minute: calendar::two_digits(v, 14),
+        second: calendar::two_digits(v, 17),
+    }
+}
+
+// Whether a value is MM/DD/YYYY HH:NN:SS and shows a day and a time of it.
 fn date_rule(v: &[u8]) -> bool
-    ensures { λ r. ⌜ r ≡ formed dateForm (now (v .entry)) ⌝ }
+    ensures { λ r. ⌜ r ≡ onieDateRule (now (v .entry)) ⌝ }
 {
     let form = DATE_FORM;
-    is_formed(&form, v)
+    if !is_formed(&form, v) {
+        return false;
+    }
+    if !calendar::is_day(onie_date(v)) {
+        return false;
+    }
+    calendar::is_time(onie_time(v))
 }
 
 // Whether a value of this code is text of any length.
@@ -194,6 +224,9 @@ pub fn onie_reading(code: u32, v: &[u8]) -> Reading
     }
     if code == 0xFD {
         return Reading::Plain;
+    }
+    if code == 0x25 {
+        return Reading::Timed(onie_date(v), onie_time(v));
     }
     Reading::Text
 }

@@ -1,7 +1,7 @@
 // What the readers of several formats do alike: parts of bytes, numbers and checks in them, and entries of one code byte.
 ghost use mathlib.Core.Path.{_≡_};
 ghost use Prim.Native.Nat.{_+_, _-_, _^_, _≤_, _<_};
-ghost use lib.ListN.{length};
+ghost use lib.ListN.{length, getD};
 ghost use lib.Dec.{leb};
 ghost use Rattle.layout.specs.Bytes.{all, between, sameBytes, part, highFirst, refusal};
 ghost use Rattle.layout.specs.Shape.{byteLength, codedHead};
@@ -19,6 +19,13 @@ fn wide(x: u8) -> usize
     ensures { λ r. ⌜ r ≡ x ⌝ }
 {
     x as usize
+}
+
+// Byte i, and 0 where it is not there.
+pub fn byte_at(s: &[u8], i: usize) -> u8
+    ensures { λ r. ⌜ r ≡ getD (now (s .entry)) i 0 ⌝ }
+{
+    if i < s.len() { s[i] } else { 0 }
 }
 
 // Whether n bytes from `at` on lie in a room of so many bytes.

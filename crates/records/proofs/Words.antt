@@ -15,7 +15,7 @@ use Rattle.laws.proofs.Lists.{joined-append}
 use Rattle.output.specs.Placing.{over, copied}
 use Rattle.output.proofs.Overlay.{length-over, over-nil, over-over, copied-over, copied-not, Copying, copies, copied-all}
 use Rattle.layout.specs.declared.Reading.{Reading}
-use Rattle.layout.specs.declared.Reading.the-variants.{Plain, Text, Number, Addresses, Numbered, Tests, Identified, Batched}
+use Rattle.layout.specs.declared.Reading.the-variants.{Plain, Text, Number, Addresses, Numbered, Tests, Identified, Batched, Dated, Timed}
 use Rattle.layout.specs.declared.Entry.{Entry}
 use Rattle.layout.specs.Calls.{toldReading}
 use Rattle.blocks.specs.declared.Offsets.{Offsets}
@@ -92,6 +92,8 @@ reading-eight (Numbered s) = refl
 reading-eight (Tests byte n) = refl
 reading-eight (Identified x) = refl
 reading-eight (Batched x batch) = refl
+reading-eight (Dated d) = refl
+reading-eight (Timed d t) = refl
 
 -- a record has 64 bytes
 pub length-record : (x : Entry) → length (recordBytes x) ≡ 64

@@ -13,6 +13,7 @@ ghost use Rattle.records.specs.Words.{wordBytes, wordsBytes, readingWord
 use blocks::Block;
 use blocks::Offsets;
 use layout::Checked;
+use layout::Date;
 use layout::Entry;
 use layout::Identity;
 use layout::Located;
@@ -131,6 +132,21 @@ fn identity_words(first: u64, x: Identity, last: u64) -> [u64; 8]
     ]
 }
 
+fn date_words(first: u64, d: Date, hour: u32, minute: u32, second: u32) -> [u64; 8]
+    ensures { λ r. ⌜ r ≡ (first ∷ d .year ∷ d .month ∷ d .day ∷ hour ∷ minute ∷ second ∷ 0 ∷ []) ⌝ }
+{
+    [
+        first,
+        d.year as u64,
+        d.month as u64,
+        d.day as u64,
+        hour as u64,
+        minute as u64,
+        second as u64,
+        0,
+    ]
+}
+
 fn reading_words(r: Reading) -> [u64; 8]
     ensures { λ w. ⌜ w ≡ readingWords r ⌝ }
 {
@@ -152,6 +168,8 @@ fn reading_words(r: Reading) -> [u64; 8]
         Reading::Tests(byte, passed) => [5, byte as u64, passed as u64, 0, 0, 0, 0, 0],
         Reading::Identified(x) => identity_words(6, x, 0),
         Reading::Batched(x, batch) => identity_words(7, x, batch as u64),
+        Reading::Dated(d) => date_words(8, d, 0, 0, 0),
+        Reading::Timed(d, t) => date_words(9, d, t.hour, t.minute, t.second),
     }
 }
 

@@ -11,13 +11,6 @@ use layout::Opened;
 use layout::Reading;
 use layout::StringNumber;
 
-// The byte at i, or 0 where there is none.
-fn byte_at(v: &[u8], i: usize) -> u8
-    ensures { λ r. ⌜ r ≡ getD (now (v .entry)) i 0 ⌝ }
-{
-    if i < v.len() { v[i] } else { 0 }
-}
-
 // Where the entries of an image are, by its header.
 pub fn tiny_opened(image: &[u8]) -> Opened
     ensures { λ r. ⌜ r ≡ tinyOpened (now (image .entry)) ⌝ }
@@ -85,8 +78,8 @@ pub fn tiny_takes(code: u32, n: usize) -> bool
 fn revision_rule(v: &[u8]) -> bool
     ensures { λ r. ⌜ r ≡ revisionRule (now (v .entry)) ⌝ }
 {
-    let major = byte_at(v, 2);
-    let minor = byte_at(v, 3);
+    let major = parts::byte_at(v, 2);
+    let minor = parts::byte_at(v, 3);
     ((major <= 99) | ((128 <= major) & (major <= 153))) & (minor <= 99)
 }
 
@@ -94,7 +87,7 @@ fn revision_rule(v: &[u8]) -> bool
 fn batch_of(v: &[u8]) -> u32
     ensures { λ r. ⌜ r ≡ batch (now (v .entry)) ⌝ }
 {
-    (byte_at(v, 6) as u32) + (byte_at(v, 7) as u32) * 256
+    (parts::byte_at(v, 6) as u32) + (parts::byte_at(v, 7) as u32) * 256
 }
 
 // Whether the value of a named entry is allowed.
@@ -121,7 +114,7 @@ fn tests_passed(b: u8) -> u8
 fn string_number(v: &[u8], i: usize) -> StringNumber
     ensures { λ r. ⌜ r .0 ≡ getD (now (v .entry)) i 0 ⌝ }
 {
-    StringNumber(byte_at(v, i) as usize)
+    StringNumber(parts::byte_at(v, i) as usize)
 }
 
 // The identity that a value begins with.
@@ -131,10 +124,10 @@ fn identity_of(v: &[u8]) -> Identity
     Identity {
         serial: string_number(v, 0),
         part: string_number(v, 1),
-        major: byte_at(v, 2),
-        minor: byte_at(v, 3),
-        free0: byte_at(v, 4),
-        free1: byte_at(v, 5),
+        major: parts::byte_at(v, 2),
+        minor: parts::byte_at(v, 3),
+        free0: parts::byte_at(v, 4),
+        free1: parts::byte_at(v, 5),
     }
 }
 
@@ -145,7 +138,7 @@ pub fn tiny_reading(code: u32, v: &[u8]) -> Reading
     if code == 0x10 {
         Reading::Numbered(string_number(v, 0))
     } else if code == 0x11 {
-        let b = byte_at(v, 0);
+        let b = parts::byte_at(v, 0);
         Reading::Tests(b, tests_passed(b))
     } else if code == 0x60 {
         Reading::Addresses(parts::six_bytes(v), 1)

@@ -137,7 +137,7 @@ fn is_checked(payload: &[u8]) -> bool
 fn number_at(s: &[u8], i: usize) -> usize
     ensures { λ r. ⌜ (r ≡ getD (now (s .entry)) i 0) × (r < 256) ⌝ }
 {
-    offsets::byte_at(s, i) as usize
+    parts::byte_at(s, i) as usize
 }
 
 // The length of the serial.

@@ -24,11 +24,30 @@ returns-3 : tie.Need-returns-3
 unfolding onieReading
 returns-3 c = search tests
 
+onie-date-requires : tie.Need-onie-date-requires
+onie-date-requires c κs = search needs
+
+onie-time-requires : tie.Need-onie-time-requires
+onie-time-requires c κs = search needs
+
 returns-4 : tie.Need-returns-4
 unfolding onieReading
-returns-4 c = search tests
+returns-4 c = rw (c .before .before .if4 .taken, c .before .onie-date .ensures, c .onie-time .ensures)
+
+returns-5 : tie.Need-returns-5
+unfolding onieReading
+returns-5 c = search tests
 
 pub onie-reading-spec : {M : Type 1} → statement M
 onie-reading-spec =
     tie.close
-    (tie.spec six-bytes-requires returns first-two-requires returns-2 returns-3 returns-4)
+    (tie.spec
+    six-bytes-requires
+    returns
+    first-two-requires
+    returns-2
+    returns-3
+    onie-date-requires
+    onie-time-requires
+    returns-4
+    returns-5)
