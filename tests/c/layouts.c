@@ -66,6 +66,7 @@ static void constants(void)
     expect_number(BOARDID_READING_IDENTITY_WITH_BATCH, 7, "reading 7");
 #endif
 #if BOARDID_EDITION >= 3
+    expect_number(BOARDID_READING_DATE_WITH_TIME, 9, "reading 9");
     expect_number(BOARDID_FORMAT_ONIE, 4, "format ONIE");
     expect_number(BOARDID_ONIE_PRODUCT_NAME, 0x21, "ONIE 21h");
     expect_number(BOARDID_ONIE_PART_NUMBER, 0x22, "ONIE 22h");
@@ -110,6 +111,7 @@ static void constants(void)
     expect_number(BOARDID_READING_STRING_NUMBER, 4, "reading 4");
     expect_number(BOARDID_READING_TEST_FLAGS, 5, "reading 5");
     expect_number(BOARDID_READING_IDENTITY, 6, "reading 6");
+    expect_number(BOARDID_READING_DATE, 8, "reading 8");
 
     expect_number(BOARDID_IMAGE_MAX, 65536, "longest image");
     expect_number(BOARDID_RECORD_SIZE, 64, "record");
@@ -261,9 +263,14 @@ static void readings(void)
     for (i = 0; i < 7; i++) {
         record.carried[i] = 0xF0000001 + i;
     }
-    for (reading = 0; reading < 10; reading++) {
+    for (reading = 0; reading < 12; reading++) {
         int identity = reading == 6 || (reading == 7 && BOARDID_EDITION >= 2);
+        int dated = reading == 8 || (reading == 9 && BOARDID_EDITION >= 3);
         struct boardid_identity given;
+        struct boardid_date date;
+#if BOARDID_EDITION >= 3
+        struct boardid_time time_of_day;
+#endif
 
         record.reading = reading;
         expect_number(boardid_record_number(&record), reading == 2 ? 0xF0000001 : 0, "number");
@@ -286,6 +293,16 @@ static void readings(void)
         expect_number(given.free_bytes[1], identity ? 0xF0000006 : 0, "second free byte");
 #if BOARDID_EDITION >= 2
         expect_number(boardid_record_batch(&record), reading == 7 ? 0xF0000007 : 0, "batch");
+#endif
+        date = boardid_record_date(&record);
+        expect_number(date.year, dated ? 0xF0000001 : 0, "year");
+        expect_number(date.month, dated ? 0xF0000002 : 0, "month");
+        expect_number(date.day, dated ? 0xF0000003 : 0, "day");
+#if BOARDID_EDITION >= 3
+        time_of_day = boardid_record_time(&record);
+        expect_number(time_of_day.hour, reading == 9 ? 0xF0000004 : 0, "hour");
+        expect_number(time_of_day.minute, reading == 9 ? 0xF0000005 : 0, "minute");
+        expect_number(time_of_day.second, reading == 9 ? 0xF0000006 : 0, "second");
 #endif
     }
 }
