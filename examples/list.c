@@ -3,11 +3,14 @@
  *
  *     list fboss|vpd|tiny|onie FILE
  *
- * Compiled with the header of edition 1 or 2, it has no onie.
+ * Compiled with the header of edition 1 or 2, it has no onie. To compile this program takes a header
+ * of version 3.2 or later.
  *
  * One line gives the file, its format, the edition of the header that this program was compiled
  * with, and how many entries there are. Then each entry has a line: its number, its name and its
  * value. An entry that the edition does not name has its code for a name, and its bytes for a value.
+ * A date is printed as YYYY-MM-DD, and one with its time as YYYY-MM-DD HH:MM:SS, whatever the format
+ * stores. A value whose reading this program does not know is printed as plain bytes.
  *
  * A VPD key may be any bytes. Text and keys stand in quotes; each of their bytes that is no
  * printable ASCII, or is a quote or a backslash, is printed as \x and two hexadecimal digits. So a
@@ -242,6 +245,26 @@ static void print_identity(const struct image_file *image, const struct boardid_
     print_character(identity.free_bytes[1]);
 }
 
+/* Prints a date. */
+static void print_date(const struct boardid_record *record)
+{
+    struct boardid_date date = boardid_record_date(record);
+
+    printf("%04lu-%02lu-%02lu", (unsigned long)date.year, (unsigned long)date.month,
+           (unsigned long)date.day);
+}
+
+#if BOARDID_EDITION >= 3
+/* Prints a time. */
+static void print_time(const struct boardid_record *record)
+{
+    struct boardid_time time_of_day = boardid_record_time(record);
+
+    printf("%02lu:%02lu:%02lu", (unsigned long)time_of_day.hour,
+           (unsigned long)time_of_day.minute, (unsigned long)time_of_day.second);
+}
+#endif
+
 /* Prints the value of an entry by its reading. */
 static void print_value(const struct image_file *image, const struct boardid_record *record)
 {
@@ -269,7 +292,18 @@ static void print_value(const struct image_file *image, const struct boardid_rec
 #endif
         print_identity(image, record);
         break;
-    default:
+    case BOARDID_READING_DATE:
+        print_date(record);
+        break;
+#if BOARDID_EDITION >= 3
+    case BOARDID_READING_DATE_WITH_TIME:
+        print_date(record);
+        printf(" ");
+        print_time(record);
+        break;
+#endif
+    case BOARDID_READING_PLAIN_BYTES:
+    default: /* a reading that the header does not have is taken for plain bytes */
         if (record->kind == BOARDID_KIND(BOARDID_FORMAT_TINY, BOARDID_TINY_ASCII_STRINGS)) {
             print_pool(image, record);
         } else if (record->kind == BOARDID_KIND(BOARDID_FORMAT_VPD, BOARDID_VPD_STRING) &&

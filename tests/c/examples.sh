@@ -40,6 +40,9 @@ run list-2 tiny tiny.bin
 echo '# list: what the samples do not show'
 printf '\xFB\xFB\x05\xFF\x01\x03"\\~\x08\x01\xFF\x09\x01\x00\x0A\x01\x09\x0B\x00\x63\x03\x00\x41\xFF\x15\x00\xFA\x02\x16\xAC' >unnamed.fboss
 run list fboss unnamed.fboss
+printf '\xFB\xFB\x05\xFF\x01\x00\x08\x01\x01\x09\x01\x02\x0A\x01\x03\x0B\x00\x0D\x08%s\xFA\x02\xD0\x0A' 00010101 >first_day.fboss
+run list fboss first_day.fboss
+run list-1 fboss first_day.fboss
 printf '\x01\x01A\x00\x01\x01B\x03\x41\x0A\x42\x01\x02_9\x02"x\xFE\x02\x1B"\x041234\x00' >bytes.vpd
 run list vpd bytes.vpd
 printf '\x56\x02\x04\x6F' >empty.tiny
@@ -51,7 +54,7 @@ run list tiny no_strings.tiny
 printf 'TlvInfo\x00\x01\x00\x06\xFE\x04\xD4\x43\x1C\x18' >empty.onie
 run list onie empty.onie
 printf 'TlvInfo\x00\x01\x00\x3D\x2F\x00\x21\x03"\\~\x24\x06\xFF\xFF\xFF\xFF\xFF\xFF\x2A\x02\xFF\xFF' >odd.onie
-printf '\x25\x13%s\xFD\x04\x00\x00\x1F\x79\xFD\x04LAB\x0A\x01\x01\x1B\xFE\x04\x81\x73\xBB\xDA' '99/99/9999 99:99:99' >>odd.onie
+printf '\x25\x13%s\xFD\x04\x00\x00\x1F\x79\xFD\x04LAB\x0A\x01\x01\x1B\xFE\x04\x45\xAA\x71\xB1' '12/31/9999 23:59:59' >>odd.onie
 run list onie odd.onie
 
 echo '# list: refusals and failures'
@@ -64,6 +67,10 @@ run list-1 vpd same_name.vpd
 printf '\x01\x08lab.rack\x00\x01\x00\x00\x00' >no_name.vpd
 run list vpd no_name.vpd
 run list-1 vpd no_name.vpd
+printf '\xFB\xFB\x05\xFF\x01\x00\x08\x01\x01\x09\x01\x02\x0A\x01\x03\x0B\x00\x0D\x08%s\xFA\x02\x9C\x6C' 20230231 >no_day.fboss
+run list fboss no_day.fboss
+run list-1 fboss no_day.fboss
+run list-2 fboss no_day.fboss
 head -c 65537 /dev/zero >long.vpd
 run list vpd long.vpd
 head -c 65536 /dev/zero >longest.vpd
@@ -77,6 +84,8 @@ printf 'TlvInfo\x00\x01\x00\x08\xFE\x04\xDE\xDD\x31\x12\x00\x00' >length.onie
 run list onie length.onie
 printf 'TlvInfo\x00\x01\x00\x0A\x2C\x02CZ\xFE\x04\x89\xF1\x86\x1D' >check.onie
 run list onie check.onie
+printf 'TlvInfo\x00\x01\x00\x1B\x25\x13%s\xFE\x04\xB7\x9C\xAD\xD6' '12/31/2024 24:00:00' >no_time.onie
+run list onie no_time.onie
 run list-1 onie onie.bin
 run list-2 onie onie.bin
 run list eeprom onie.bin
@@ -109,6 +118,7 @@ run list-1 vpd names.vpd
 run bytes names.vpd
 run edit fboss fboss.bin 0 SECOND_SQUEEZE
 run edit -x fboss fboss.bin 8 '0A'
+run edit fboss fboss.bin 12 20240229
 run edit -x fboss fboss.bin 16 '02 1A 2B 3C 4D 5E 00 10'
 run list fboss fboss.bin
 run edit -x tiny tiny.bin 1 0f
@@ -139,8 +149,13 @@ run edit -x vpd board.vpd 0 000081
 run edit vpd board.vpd 4 x
 run edit vpd board.vpd 18446744073709551615 x
 run edit fboss fboss.bin 12 20231301
+run edit fboss fboss.bin 12 20230229
+run edit-1 fboss fboss.bin 12 20230431
+run edit fboss no_day.fboss 5 20230228
 run edit -x onie onie.bin 5 02
 run edit onie onie.bin 4 2024-12-31
+run edit onie onie.bin 4 '02/30/2024 23:59:59'
+run edit onie onie.bin 4 '12/31/2024 23:59:60'
 run edit onie onie.bin 10 Germany
 run edit -x onie onie.bin 12 001f79
 run edit onie onie.bin 9 'longer than the file has room for'
