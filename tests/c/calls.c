@@ -18,6 +18,25 @@
 /* ONIE's magic and version; the length, the entries and the end follow. */
 #define ONIE "54 6C 76 49 6E 66 6F 00 01 "
 
+/* What FBOSS images are written from: at 0 the bytes 1, 2 and 3, at 3 20240229, at 11 20230231. */
+#define FBOSS_VALUES "01 02 03 32 30 32 34 30 32 32 39 32 30 32 33 30 32 33 31"
+
+/* What is required of FBOSS, as fields of these values, and as the start of an image. */
+#define FBOSS_FIELDS \
+    {1, 0, 0, 0, 0}, {8, 0, 0, 0, 1}, {9, 0, 0, 1, 1}, {10, 0, 0, 2, 1}, {11, 0, 0, 0, 0}
+#define FBOSS_START "FB FB 05 FF 01 00 08 01 01 09 01 02 0A 01 03 0B 00 "
+
+/* FBOSS images with the dates 20230228 and 20240229, and one with 20230231. */
+#define FBOSS_2023 FBOSS_START "0D 08 32 30 32 33 30 32 32 38 FA 02 3E 74"
+#define FBOSS_2024 FBOSS_START "0D 08 32 30 32 34 30 32 32 39 FA 02 49 81"
+#define FBOSS_NO_DAY FBOSS_START "0D 08 32 30 32 33 30 32 33 31 FA 02 9C 6C"
+
+/* Values of ONIE 25h, 12/31/2024 23:59:59 and 12/31/2024 24:00:00, and an image with each. */
+#define ONIE_DATE "31 32 2F 33 31 2F 32 30 32 34 20 32 33 3A 35 39 3A 35 39"
+#define ONIE_NO_DATE "31 32 2F 33 31 2F 32 30 32 34 20 32 34 3A 30 30 3A 30 30"
+#define ONIE_DATED ONIE "00 1B 25 13 " ONIE_DATE " FE 04 9E C5 75 CD"
+#define ONIE_MISDATED ONIE "00 1B 25 13 " ONIE_NO_DATE " FE 04 B7 9C AD D6"
+
 /* What ONIE images are written from: at 0 LEAF, at 4 an enterprise number, at 8 a 3, at 10 CZ. */
 #define ONIE_VALUES "4C 45 41 46 00 00 1F 79 00 03 43 5A"
 
@@ -104,6 +123,47 @@ static const struct image_case image_cases[] = {
      1,
      "FB FB 05 FF 01 00 08 01 01 09 01 02 0A 01 03 0B 00 0D 08 32 30 32 33 31 33 30 31 FA 02 88 BB",
      {{7, 17, 0}, {7, 17, 0}}},
+    {"FBOSS: 31 February", 1, FBOSS_NO_DAY, {{7, 17, 0}, {7, 17, 0}}},
+    {"FBOSS: 31 February and a wrong check",
+     1,
+     FBOSS_START "0D 08 32 30 32 33 30 32 33 31 FA 02 9C 6D",
+     {{10, 29, 0}, {10, 29, 0}}},
+    {"FBOSS: 29 February 1900",
+     1,
+     FBOSS_START "0D 08 31 39 30 30 30 32 32 39 FA 02 A8 7E",
+     {{7, 17, 0}, {7, 17, 0}}},
+    {"FBOSS: 29 February 2000",
+     1,
+     FBOSS_START "0D 08 32 30 30 30 30 32 32 39 FA 02 4B C7",
+     {{0, 0, 6}, {0, 0, 6}}},
+    {"FBOSS: 10 October 1582",
+     1,
+     FBOSS_START "0D 08 31 35 38 32 31 30 31 30 FA 02 6F 7A",
+     {{0, 0, 6}, {0, 0, 6}}},
+    {"FBOSS: year 0000",
+     1,
+     FBOSS_START "0D 08 30 30 30 30 30 31 30 31 FA 02 7A 5B",
+     {{7, 17, 0}, {7, 17, 0}}},
+    {"FBOSS: no day, then 1 a second time",
+     1,
+     FBOSS_START "0D 08 32 30 32 33 30 32 33 31 01 00 FA 02 C3 9D",
+     {{7, 17, 0}, {7, 17, 0}}},
+    {"FBOSS: 1 a second time, then no day",
+     1,
+     FBOSS_START "01 00 0D 08 32 30 32 33 30 32 33 31 FA 02 2F 22",
+     {{8, 17, 0}, {8, 17, 0}}},
+    {"FBOSS: 13 a second time and no day",
+     1,
+     FBOSS_START "0D 08 32 30 32 33 30 32 32 38 0D 08 32 30 32 33 30 32 33 31 FA 02 25 00",
+     {{7, 27, 0}, {7, 27, 0}}},
+    {"FBOSS: 13 a second time and a day",
+     1,
+     FBOSS_START "0D 08 32 30 32 33 30 32 32 38 0D 08 32 30 32 33 30 32 32 38 FA 02 87 18",
+     {{8, 27, 0}, {8, 27, 0}}},
+    {"FBOSS: no day, and 11 is missing",
+     1,
+     "FB FB 05 FF 01 00 08 01 01 09 01 02 0A 01 03 0D 08 32 30 32 33 30 32 33 31 FA 02 0A 0B",
+     {{7, 15, 0}, {7, 15, 0}}},
     {"D18: a count of 0",
      1,
      "FB FB 05 FF 01 00 08 01 01 09 01 01 0A 01 01 0B 00 11 08 02 00 00 00 00 01 00 00 FA 02 12 06",
@@ -317,11 +377,41 @@ static const struct image_case image_cases[] = {
      4,
      ONIE "00 10 24 08 00 00 00 00 00 00 00 00 FE 04 40 B8 C4 30",
      {{16, 0, 0}, {7, 11, 0}}},
-    {"ONIE: a date of any digits",
+    {"ONIE: digits that are no date",
      4,
-     ONIE "00 1B 25 13 39 39 2F 30 30 2F 30 30 30 30 20 39 39 3A 39 39 3A 39 39 FE 04 CF "
-     "01 6A E2",
+     ONIE "00 1B 25 13 39 39 2F 30 30 2F 30 30 30 30 20 39 39 3A 39 39 3A 39 39 FE 04 CF 01 6A E2",
+     {{16, 0, 0}, {7, 11, 0}}},
+    {"ONIE: 29 February 2024, 23:59:59",
+     4,
+     ONIE "00 1B 25 13 30 32 2F 32 39 2F 32 30 32 34 20 32 33 3A 35 39 3A 35 39 FE 04 08 5D 0F 2C",
      {{16, 0, 0}, {0, 0, 1}}},
+    {"ONIE: 29 February 2023",
+     4,
+     ONIE "00 1B 25 13 30 32 2F 32 39 2F 32 30 32 33 20 32 33 3A 35 39 3A 35 39 FE 04 7C C5 E6 A3",
+     {{16, 0, 0}, {7, 11, 0}}},
+    {"ONIE: the same with a wrong check",
+     4,
+     ONIE "00 1B 25 13 30 32 2F 32 39 2F 32 30 32 33 20 32 33 3A 35 39 3A 35 39 FE 04 7C C5 E6 A2",
+     {{16, 0, 0}, {10, 34, 0}}},
+    {"ONIE: 24 hours", 4, ONIE_MISDATED, {{16, 0, 0}, {7, 11, 0}}},
+    {"ONIE: 60 minutes",
+     4,
+     ONIE "00 1B 25 13 31 32 2F 33 31 2F 32 30 32 34 20 32 33 3A 36 30 3A 30 30 FE 04 B0 2D F5 25",
+     {{16, 0, 0}, {7, 11, 0}}},
+    {"ONIE: 60 seconds",
+     4,
+     ONIE "00 1B 25 13 31 32 2F 33 31 2F 32 30 32 34 20 32 33 3A 35 39 3A 36 30 FE 04 83 A1 E1 AC",
+     {{16, 0, 0}, {7, 11, 0}}},
+    {"ONIE: 25h a second time and no date",
+     4,
+     ONIE "00 30 25 13 31 32 2F 33 31 2F 32 30 32 34 20 32 33 3A 35 39 3A 35 39 25 13 31 32 2F 33 "
+     "31 2F 32 30 32 34 20 32 34 3A 30 30 3A 30 30 FE 04 DA 85 42 5D",
+     {{16, 0, 0}, {7, 32, 0}}},
+    {"ONIE: 25h a second time and a date",
+     4,
+     ONIE "00 30 25 13 31 32 2F 33 31 2F 32 30 32 34 20 32 33 3A 35 39 3A 35 39 25 13 31 32 2F 33 "
+     "31 2F 32 30 32 34 20 32 33 3A 35 39 3A 35 39 FE 04 F3 DC 9A 46",
+     {{16, 0, 0}, {8, 32, 0}}},
     {"ONIE: a date of 18 bytes",
      4,
      ONIE "00 1A 25 12 31 2F 30 32 2F 32 30 32 34 20 30 33 3A 30 34 3A 30 35 FE 04 6E A1 "
@@ -676,6 +766,7 @@ static void records(void)
         {11, 1, {17, 19, 0, 19, 0}, 1, {0, 0, 0, 0, 0, 0, 0}},
         {21, 0, {19, 21, 0, 21, 2}, 0, {0, 0, 0, 0, 0, 0, 0}},
         {20, 2, {23, 25, 0, 25, 8}, 3, {0x021A, 0x2B3C4D5E, 0x0102, 0, 0, 0, 0}},
+        {13, 1, {33, 35, 0, 35, 8}, 8, {2024, 2, 29, 0, 0, 0, 0}},
     };
     static const struct record_case vpd[] = {
         {0x01, 1, {0, 3, 3, 9, 2}, 0, {0, 0, 0, 0, 0, 0, 0}},
@@ -702,7 +793,7 @@ static void records(void)
         {0x22, 3, {15, 17, 0, 17, 0}, 1, {0, 0, 0, 0, 0, 0, 0}},
         {0x23, 3, {17, 19, 0, 19, 2}, 1, {0, 0, 0, 0, 0, 0, 0}},
         {0x24, 3, {21, 23, 0, 23, 6}, 3, {0x021A, 0x2B3C4D5E, 1, 0, 0, 0, 0}},
-        {0x25, 3, {29, 31, 0, 31, 19}, 1, {0, 0, 0, 0, 0, 0, 0}},
+        {0x25, 3, {29, 31, 0, 31, 19}, 9, {2024, 2, 3, 4, 5, 6, 0}},
         {0x26, 0, {50, 52, 0, 52, 1}, 0, {0, 0, 0, 0, 0, 0, 0}},
         {0x2A, 3, {53, 55, 0, 55, 2}, 2, {0xFF03, 0, 0, 0, 0, 0, 0}},
         {0x2B, 3, {57, 59, 0, 59, 1}, 1, {0, 0, 0, 0, 0, 0, 0}},
@@ -715,7 +806,7 @@ static void records(void)
 
     expect_records(1,
                    "FB FB 05 FF 08 01 FE 01 02 41 42 09 01 02 0A 01 03 0B 00 15 02 00 FF "
-                   "14 08 02 1A 2B 3C 4D 5E 01 02 FA 02 AB E4",
+                   "14 08 02 1A 2B 3C 4D 5E 01 02 0D 08 32 30 32 34 30 32 32 39 FA 02 AE 73",
                    fboss, sizeof fboss / sizeof fboss[0], "records of FBOSS");
     expect_records(2, "01 80 03 53 4B 55 80 80 02 41 37 FE 00 04 01 02 03 04 01 01 5F 00 FF", vpd,
                    sizeof vpd / sizeof vpd[0], "records of VPD");
@@ -948,6 +1039,25 @@ static const struct write_case write_cases[] = {
     {"FBOSS without 11", 1, 4,
      {{1, 0, 0, 0, 0}, {8, 0, 0, 0, 1}, {9, 0, 0, 1, 1}, {10, 0, 0, 2, 1}},
      "01 02 03", 0, {{11, 0, 0}, {11, 0, 0}}, ""},
+    {"FBOSS: 29 February 2024", 1, 6, {FBOSS_FIELDS, {13, 0, 0, 3, 8}}, FBOSS_VALUES, 31,
+     {{0, 0, 31}, {0, 0, 31}}, FBOSS_2024},
+    {"FBOSS: 29 February 2024, no room", 1, 6, {FBOSS_FIELDS, {13, 0, 0, 3, 8}}, FBOSS_VALUES, 30,
+     {{12, 0, 0}, {12, 0, 0}}, ""},
+    {"FBOSS: 31 February", 1, 6, {FBOSS_FIELDS, {13, 0, 0, 11, 8}}, FBOSS_VALUES, 40,
+     {{7, 5, 0}, {7, 5, 0}}, ""},
+    {"FBOSS: 31 February, 7 before 12", 1, 6, {FBOSS_FIELDS, {13, 0, 0, 11, 8}}, FBOSS_VALUES, 0,
+     {{7, 5, 0}, {7, 5, 0}}, ""},
+    {"FBOSS: 31 February, 7 before 11", 1, 1, {{13, 0, 0, 11, 8}}, FBOSS_VALUES, 40,
+     {{7, 0, 0}, {7, 0, 0}}, ""},
+    {"FBOSS: a date over the end, 13 before 7", 1, 1, {{13, 0, 0, 12, 8}}, FBOSS_VALUES, 40,
+     {{13, 0, 0}, {13, 0, 0}}, ""},
+    {"FBOSS: 7 before 8", 1, 2, {{13, 0, 0, 3, 8}, {13, 0, 0, 11, 8}}, FBOSS_VALUES, 40,
+     {{7, 1, 0}, {7, 1, 0}}, ""},
+    {"FBOSS: 13 twice", 1, 2, {{13, 0, 0, 3, 8}, {13, 0, 0, 3, 8}}, FBOSS_VALUES, 40,
+     {{8, 1, 0}, {8, 1, 0}}, ""},
+    {"FBOSS: 8 at a field before no day", 1, 3,
+     {{1, 0, 0, 0, 0}, {1, 0, 0, 0, 0}, {13, 0, 0, 11, 8}}, FBOSS_VALUES, 40,
+     {{8, 1, 0}, {8, 1, 0}}, ""},
     {"ONIE of no fields", 4, 0, {{0, 0, 0, 0, 0}}, "", 20,
      {{16, 0, 0}, {0, 0, 17}}, ONIE "00 06 FE 04 D4 43 1C 18"},
     {"ONIE of no fields, exact room", 4, 0, {{0, 0, 0, 0, 0}}, "", 17,
@@ -993,6 +1103,13 @@ static const struct write_case write_cases[] = {
     {"ONIE: field by field", 4, 3, {{0x21, 0, 0, 0, 4}, {0x21, 0, 0, 0, 1}, {0x26, 0, 0, 0, 1}},
      ONIE_VALUES, 60,
      {{16, 0, 0}, {8, 1, 0}}, ""},
+    {"ONIE: a date", 4, 1, {{0x25, 0, 0, 0, 19}}, ONIE_DATE, 40, {{16, 0, 0}, {0, 0, 38}},
+     ONIE_DATED},
+    {"ONIE: 24 hours", 4, 1, {{0x25, 0, 0, 0, 19}}, ONIE_NO_DATE, 40, {{16, 0, 0}, {7, 0, 0}}, ""},
+    {"ONIE: 24 hours, 7 before 12", 4, 1, {{0x25, 0, 0, 0, 19}}, ONIE_NO_DATE, 0,
+     {{16, 0, 0}, {7, 0, 0}}, ""},
+    {"ONIE: 24 hours, 7 before 8", 4, 2, {{0x25, 0, 0, 0, 19}, {0x25, 0, 0, 20, 19}},
+     ONIE_DATE " 00 " ONIE_NO_DATE, 80, {{16, 0, 0}, {7, 1, 0}}, ""},
     {"format 0", 0, 0, {{0, 0, 0, 0, 0}}, "", 3, {{16, 0, 0}, {16, 0, 0}}, ""},
 };
 
@@ -1103,6 +1220,19 @@ static const struct edit_case edit_cases[] = {
      40,
      {{14, 17, 0}, {0, 0, 31}},
      "FB FB 05 FF 01 00 08 01 01 09 01 01 0A 01 01 0B 00 11 08 02 00 00 00 00 01 00 00 FA 02 12 06"},
+    {"FBOSS: 13 to 29 February 2024", 1, FBOSS_2023, 5, "32 30 32 34 30 32 32 39", 31,
+     {{0, 0, 31}, {0, 0, 31}}, FBOSS_2024},
+    {"FBOSS: 13 to 29 February 2024, no room", 1, FBOSS_2023, 5, "32 30 32 34 30 32 32 39", 30,
+     {{12, 0, 0}, {12, 0, 0}}, ""},
+    {"FBOSS: 13 to 29 February 2023", 1, FBOSS_2023, 5, "32 30 32 33 30 32 32 39", 40,
+     {{7, 17, 0}, {7, 17, 0}}, ""},
+    {"FBOSS: 13 to 29 February 2023, 7 before 12", 1, FBOSS_2023, 5, "32 30 32 33 30 32 32 39", 0,
+     {{7, 17, 0}, {7, 17, 0}}, ""},
+    {"FBOSS: a number beside 31 February", 1, FBOSS_NO_DAY, 1, "02", 40,
+     {{7, 17, 0}, {7, 17, 0}}, ""},
+    {"FBOSS: 31 February to a day", 1, FBOSS_NO_DAY, 5, "32 30 32 33 30 32 32 38", 40,
+     {{7, 17, 0}, {7, 17, 0}}, ""},
+    {"FBOSS: 31 February, 7 before 13", 1, FBOSS_NO_DAY, 6, "", 40, {{7, 17, 0}, {7, 17, 0}}, ""},
     {"ONIE: 21h to BC", 4, ONIE_FOUR, 0, "42 43", 39, {{16, 0, 0}, {0, 0, 37}},
      ONIE "00 1A 21 02 42 43 26 01 01 FD 04 00 00 1F 79 FD 05 00 00 1F 79 00 FE 04 F2 84 47 08"},
     {"ONIE: 21h to BC, no room", 4, ONIE_FOUR, 0, "42 43", 36, {{16, 0, 0}, {12, 0, 0}}, ""},
@@ -1123,6 +1253,13 @@ static const struct edit_case edit_cases[] = {
     {"ONIE: a country to three letters", 4,
      ONIE "00 0A 2C 02 43 5A FE 04 89 F1 86 1C AA BB", 0, "43 5A 45", 24,
      {{16, 0, 0}, {7, 11, 0}}, ""},
+    {"ONIE: 25h to a date", 4,
+     ONIE "00 1B 25 13 30 32 2F 30 33 2F 32 30 32 34 20 30 34 3A 30 35 3A 30 36 FE 04 46 49 5E D1",
+     0, ONIE_DATE, 40, {{16, 0, 0}, {0, 0, 38}}, ONIE_DATED},
+    {"ONIE: 25h to 24 hours", 4, ONIE_DATED, 0, ONIE_NO_DATE, 40, {{16, 0, 0}, {7, 11, 0}}, ""},
+    {"ONIE: 25h to 24 hours, 7 before 12", 4, ONIE_DATED, 0, ONIE_NO_DATE, 0,
+     {{16, 0, 0}, {7, 11, 0}}, ""},
+    {"ONIE: 24 hours to a date", 4, ONIE_MISDATED, 0, ONIE_DATE, 40, {{16, 0, 0}, {7, 11, 0}}, ""},
     {"ONIE: no entries", 4, ONIE "00 06 FE 04 D4 43 1C 18", 0, "", 40,
      {{16, 0, 0}, {13, 0, 0}}, ""},
 };

@@ -1,19 +1,38 @@
 /*
- * One function of a program that has the headers of all editions: compiled once with each edition's
- * header, under the name that FUNCTION is defined as. It gives the kind of the first entry of an
- * image; where the call is refused, the refusal's number times 65,536.
+ * Two functions of a program that has the headers of all editions: compiled once with each
+ * edition's header, under the names that KIND and DATE are defined as. They give the kind of the
+ * first entry of an image, and its date as the number YYYYMMDD, which is 0 where its reading is no
+ * date; where the call is refused, both give the refusal's number times 100,000,000.
  */
 #include <boardid.h>
 
-uint32_t FUNCTION(uint32_t format, const uint8_t *image, size_t length);
+uint32_t KIND(uint32_t format, const uint8_t *image, size_t length);
+uint32_t DATE(uint32_t format, const uint8_t *image, size_t length);
 
-uint32_t FUNCTION(uint32_t format, const uint8_t *image, size_t length)
+/* The first entry of an image, and the number of the refusal. */
+static uint32_t first_entry(uint32_t format, const uint8_t *image, size_t length,
+                            struct boardid_record *record)
 {
-    uint8_t record[BOARDID_RECORD_SIZE] = {0};
+    uint8_t bytes[BOARDID_RECORD_SIZE] = {0};
+    uint64_t answer = boardid_entry_at(format, image, length, 0, bytes, sizeof bytes);
 
-    uint64_t answer = boardid_entry_at(format, image, length, 0, record, sizeof record);
+    *record = boardid_record_at(bytes, 0);
+    return boardid_answer_number(answer);
+}
 
-    if (boardid_answer_number(answer) != 0)
-        return boardid_answer_number(answer) * 65536;
-    return boardid_record_at(record, 0).kind;
+uint32_t KIND(uint32_t format, const uint8_t *image, size_t length)
+{
+    struct boardid_record record;
+    uint32_t number = first_entry(format, image, length, &record);
+
+    return number != 0 ? number * 100000000 : record.kind;
+}
+
+uint32_t DATE(uint32_t format, const uint8_t *image, size_t length)
+{
+    struct boardid_record record;
+    uint32_t number = first_entry(format, image, length, &record);
+    struct boardid_date date = boardid_record_date(&record);
+
+    return number != 0 ? number * 100000000 : date.year * 10000 + date.month * 100 + date.day;
 }

@@ -5,9 +5,9 @@
  * are read and not written. The ONIE image has entries that edition 3 names and entries that none
  * names; editions 1 and 2, which do not have its format, refuse every call on it with 16.
  *
- *     old_header list FOLDER        expects this edition's kinds, and writes what every edition that
- *                                   has the format must list alike (codes, keys, values) to a file
- *                                   for each image, FOLDER/NAME-N.list in edition N
+ *     old_header list FOLDER        expects this edition's kinds and readings, and writes what every
+ *                                   edition that has the format must list alike (codes, keys, values)
+ *                                   to a file for each image, FOLDER/NAME-N.list in edition N
  *     old_header edit FOLDER        edits each entry that this edition names, each into a file
  *     old_header read FOLDER N      reads what edition N edited, and expects that only that one
  *                                   value is changed
@@ -20,10 +20,14 @@
 
 enum { MOST_ENTRIES = 12 };
 
-/* One entry: its code, the first edition that names it (0: none does), and a value to edit it to. */
+/*
+ * One entry: its code, the first edition that names it (0: none does), how it is read where it is
+ * named, and a value to edit it to.
+ */
 struct entry_case {
     uint32_t code;
     uint32_t since;
+    uint32_t reading;
     const char *value;
 };
 
@@ -46,35 +50,38 @@ static const struct image_case images[] = {
      "13 08 02 1A 2B 3C 4D 7E 01 00 14 08 02 1A 2B 3C 4D 8E FF FF 0D 08 32 30 32 34 30 31 33 31 "
      "15 00 FA 02 13 68 FF FF FF",
      12,
-     {{1, 1, "53 50 49 4E 45 2D 36 34"},
-      {8, 1, "FF"},
-      {9, 1, "00"},
-      {17, 2, "02 1A 2B 00 00 00 00 00"},
-      {10, 1, "63"},
-      {18, 2, "FF FF FF FF FF FF FF FF"},
-      {99, 0, "00"},
-      {11, 1, ""},
-      {19, 2, "00 00 00 00 00 00 00 00"},
-      {20, 2, "02 1A 2B 3C 4D 8E 00 02"},
-      {13, 1, "32 30 32 34 30 32 30 31"},
-      {21, 0, ""}}},
+     {{1, 1, 1, "53 50 49 4E 45 2D 36 34"},
+      {8, 1, 2, "FF"},
+      {9, 1, 2, "00"},
+      {17, 2, 3, "02 1A 2B 00 00 00 00 00"},
+      {10, 1, 2, "63"},
+      {18, 2, 3, "FF FF FF FF FF FF FF FF"},
+      {99, 0, 0, "00"},
+      {11, 1, 1, ""},
+      {19, 2, 3, "00 00 00 00 00 00 00 00"},
+      {20, 2, 3, "02 1A 2B 3C 4D 8E 00 02"},
+      {13, 1, 8, "32 30 32 34 30 32 30 31"},
+      {21, 0, 0, ""}}},
     {"vpd",
      BOARDID_FORMAT_VPD,
      1,
      "01 03 53 4B 55 02 41 37 FE 08 67 56 70 64 49 6E 66 6F 80 04 2A 00 00 00 "
      "01 80 06 73 65 72 69 61 6C 80 80 03 31 32 33 01 03 6D 61 63 06 02 1A 2B 3C 4D 5E FF AA 01",
      4,
-     {{0x01, 1, "42"},
-      {0xFE, 2, "00 00 00 2A"},
-      {0x01, 1, "39 38 37 36 35 34 33 32 31"},
-      {0x01, 1, ""}}},
+     {{0x01, 1, 0, "42"},
+      {0xFE, 2, 0, "00 00 00 2A"},
+      {0x01, 1, 0, "39 38 37 36 35 34 33 32 31"},
+      {0x01, 1, 0, ""}}},
     {"names",
      BOARDID_FORMAT_VPD,
      1,
      "01 80 08 6C 61 62 2E 72 61 63 6B 03 52 30 37 FE 01 22 80 04 01 02 03 04 "
      "01 03 22 00 FF 80 00 01 03 53 4B 55 02 41 37 FF AA",
      4,
-     {{0x01, 1, "42"}, {0xFE, 2, "00 00 00 2A"}, {0x01, 1, "00 FF 22"}, {0x01, 1, ""}}},
+     {{0x01, 1, 0, "42"},
+      {0xFE, 2, 0, "00 00 00 2A"},
+      {0x01, 1, 0, "00 FF 22"},
+      {0x01, 1, 0, ""}}},
     {"tiny",
      BOARDID_FORMAT_TINY,
      1,
@@ -82,16 +89,16 @@ static const struct image_case images[] = {
      "61 00 01 02 0A 2D 2D 62 01 00 99 00 58 59 60 02 1A 2B 3C 4D 5E 02 03 01 02 03 "
      "01 05 53 B1 50 4E B2 0C 00 11",
      10,
-     {{0x80, 2, "01 00 00 00 00 FF 00 00"},
-      {0x10, 1, "01"},
-      {0x23, 0, "00 00"},
-      {0x11, 1, "0F"},
-      {0x81, 2, "00 00 99 63 20 20 0E 27"},
-      {0x61, 1, "01 01 63 63 41 42"},
-      {0x62, 1, "07 07 80 00 00 00"},
-      {0x60, 1, "00 00 00 00 00 01"},
-      {0x02, 0, "01"},
-      {0x01, 1, "53 32 B2 50 4E 33 B3 C1"}}},
+     {{0x80, 2, 7, "01 00 00 00 00 FF 00 00"},
+      {0x10, 1, 4, "01"},
+      {0x23, 0, 0, "00 00"},
+      {0x11, 1, 5, "0F"},
+      {0x81, 2, 7, "00 00 99 63 20 20 0E 27"},
+      {0x61, 1, 6, "01 01 63 63 41 42"},
+      {0x62, 1, 6, "07 07 80 00 00 00"},
+      {0x60, 1, 3, "00 00 00 00 00 01"},
+      {0x02, 0, 0, "01"},
+      {0x01, 1, 0, "53 32 B2 50 4E 33 B3 C1"}}},
     {"onie",
      4, /* BOARDID_FORMAT_ONIE, which the headers of editions 1 and 2 do not have */
      3,
@@ -100,18 +107,18 @@ static const struct image_case images[] = {
      "2A 02 00 03 2C 02 43 5A 28 08 78 38 36 5F 36 34 2D FF FD 06 00 00 1F 79 00 02 2D 00 "
      "23 03 53 4E 31 FE 04 22 39 59 54 00 11",
      12,
-     {{0xFD, 3, "00 00 1F 79"},
-      {0x21, 3, "53 50 49 4E 45 2D 36 34"},
-      {0x26, 0, "02"},
-      {0x25, 3, "30 35 2F 30 36 2F 32 30 32 35 20 30 37 3A 30 38 3A 30 39"},
-      {0x2F, 0, ""},
-      {0x24, 3, "00 00 00 00 00 01"},
-      {0x2A, 3, "FF FF"},
-      {0x2C, 3, "44 45"},
-      {0x28, 0, "78"},
-      {0xFD, 3, "FF FF FF FF 00 01 02 03 04 05 06 07 08 09"},
-      {0x2D, 3, "56"},
-      {0x23, 3, ""}}},
+     {{0xFD, 3, 0, "00 00 1F 79"},
+      {0x21, 3, 1, "53 50 49 4E 45 2D 36 34"},
+      {0x26, 0, 0, "02"},
+      {0x25, 3, 9, "30 35 2F 30 36 2F 32 30 32 35 20 30 37 3A 30 38 3A 30 39"},
+      {0x2F, 0, 0, ""},
+      {0x24, 3, 3, "00 00 00 00 00 01"},
+      {0x2A, 3, 2, "FF FF"},
+      {0x2C, 3, 1, "44 45"},
+      {0x28, 0, 0, "78"},
+      {0xFD, 3, 0, "FF FF FF FF 00 01 02 03 04 05 06 07 08 09"},
+      {0x2D, 3, 1, "56"},
+      {0x23, 3, 1, ""}}},
 };
 
 enum { IMAGES = sizeof images / sizeof images[0] };
@@ -187,6 +194,33 @@ static int same_part(struct lent a, uint32_t a_place, uint32_t a_length, struct 
                      uint32_t b_place, uint32_t b_length)
 {
     return a_length == b_length && memcmp(a.bytes + a_place, b.bytes + b_place, a_length) == 0;
+}
+
+/* Expects that a date, written as its format writes it, is the value of its entry. */
+static void expect_date(const struct image_case *c, struct lent image, struct boardid_record record)
+{
+    struct boardid_date date = boardid_record_date(&record);
+    const uint8_t *value = image.bytes + record.value_place;
+    char text[80] = "";
+
+    if (record.reading == BOARDID_READING_DATE) {
+        snprintf(text, sizeof text, "%04lu%02lu%02lu", (unsigned long)date.year,
+                 (unsigned long)date.month, (unsigned long)date.day);
+        expect(strlen(text) == record.value_length && memcmp(value, text, strlen(text)) == 0,
+               c->name);
+    }
+#if BOARDID_EDITION >= 3
+    if (record.reading == BOARDID_READING_DATE_WITH_TIME) {
+        struct boardid_time time_of_day = boardid_record_time(&record);
+
+        snprintf(text, sizeof text, "%02lu/%02lu/%04lu ", (unsigned long)date.month,
+                 (unsigned long)date.day, (unsigned long)date.year);
+        expect(memcmp(value, text, 11) == 0, c->name);
+        snprintf(text, sizeof text, "%02lu:%02lu:%02lu", (unsigned long)time_of_day.hour,
+                 (unsigned long)time_of_day.minute, (unsigned long)time_of_day.second);
+        expect(record.value_length == 19 && memcmp(value + 11, text, 8) == 0, c->name);
+    }
+#endif
 }
 
 /* The path of a file in a folder. */
@@ -270,6 +304,8 @@ static void list_all(const char *folder)
             expect_number(record.code, entry->code, c->name);
             if (names(BOARDID_EDITION, entry)) {
                 expect_number(record.kind, BOARDID_KIND(c->format, entry->code), c->name);
+                expect_number(record.reading, entry->reading, c->name);
+                expect_date(c, image, record);
             } else {
                 expect_number(record.kind, 0, c->name);
                 expect_number(record.reading, BOARDID_READING_PLAIN_BYTES, c->name);
@@ -341,6 +377,7 @@ static void expect_one_change(const struct image_case *c, struct lent image, str
         expect_number(b.code, a.code, c->name);
         expect_number(b.kind, a.kind, c->name);
         expect_number(b.reading, a.reading, c->name);
+        expect_date(c, edited, b);
         expect(same_part(image, a.key_place, a.key_length, edited, b.key_place, b.key_length),
                c->name);
         if (k == n) {

@@ -55,6 +55,16 @@ int main()
     good = good && boardid_record_tests_passed(&entry) == 0;
     const boardid_identity identity = boardid_record_identity(&entry);
     good = good && identity.serial_string == 0 && identity.free_bytes[1] == 0;
+    good = good && boardid_record_date(&entry).year == 0;
+
+    static const uint8_t fboss[] = {0xFB, 0xFB, 5,   0xFF, 1,   0,   8,  1,    1,   9,   1,
+                                    2,    10,   1,   3,    11,  0,   13, 8,    '2', '0', '2',
+                                    '4',  '0',  '2', '2',  '9', 250, 2,  0x49, 0x81};
+    answer = boardid_entry_at(BOARDID_FORMAT_FBOSS, fboss, sizeof fboss, 5, record, sizeof record);
+    const boardid_record dated = boardid_record_at(record, 0);
+    const boardid_date date = boardid_record_date(&dated);
+    good = good && boardid_answer_count(answer) == 1 && dated.reading == BOARDID_READING_DATE;
+    good = good && date.year == 2024 && date.month == 2 && date.day == 29;
 #if BOARDID_EDITION >= 2
     good = good && boardid_record_batch(&entry) == 0;
 #endif
@@ -70,6 +80,25 @@ int main()
                                                          record, sizeof record)) == 1;
     good = good && boardid_record_at(record, 0).kind ==
                        BOARDID_KIND(BOARDID_FORMAT_ONIE, BOARDID_ONIE_COUNTRY_CODE);
+
+    const char *const evening = "12/31/2024 23:59:58";
+    const boardid_field manufacture = {BOARDID_ONIE_MANUFACTURE_DATE, 0, 0, 0, 19};
+    uint8_t stamped[38];
+    boardid_field_set(field, 0, manufacture);
+    answer = boardid_write_image(BOARDID_FORMAT_ONIE, field, sizeof field,
+                                 reinterpret_cast<const uint8_t *>(evening), 19, stamped,
+                                 sizeof stamped);
+    good = good && boardid_answer_count(answer) == sizeof stamped;
+    good = good && boardid_answer_count(boardid_entry_at(BOARDID_FORMAT_ONIE, stamped,
+                                                         sizeof stamped, 0, record,
+                                                         sizeof record)) == 1;
+    const boardid_record timed = boardid_record_at(record, 0);
+    const boardid_time time_of_day = boardid_record_time(&timed);
+    good = good && timed.reading == BOARDID_READING_DATE_WITH_TIME;
+    good = good && boardid_record_date(&timed).year == 2024;
+    good = good && boardid_record_date(&timed).month == 12 && boardid_record_date(&timed).day == 31;
+    good = good && time_of_day.hour == 23 && time_of_day.minute == 59 && time_of_day.second == 58;
+    good = good && boardid_record_time(&dated).hour == 0;
 
     static const int8_t offsets[BOARDID_VENDOR_OFFSETS] = {24, -2, 0, 0, 0, 0, 0, -128};
     uint8_t piece[BOARDID_VENDOR_PIECE_SIZE], block[BOARDID_VENDOR_BLOCK_SIZE];

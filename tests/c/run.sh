@@ -84,9 +84,9 @@ old_and_new() {
 three_headers() {
     local folder=$1 edition parts=()
     for edition in 1 2 3; do
-        "$cc" -std=c99 "${warnings[@]}" "${flags[@]}" "-Iinclude/edition-$edition" "-DFUNCTION=kind_by_edition_$edition" -c \
-            -o "$folder/kind-$edition.o" tests/c/kind_of_first.c || return 1
-        parts+=("$folder/kind-$edition.o")
+        "$cc" -std=c99 "${warnings[@]}" "${flags[@]}" "-Iinclude/edition-$edition" "-DKIND=kind_by_edition_$edition" "-DDATE=date_by_edition_$edition" -c \
+            -o "$folder/first-$edition.o" tests/c/first_entry.c || return 1
+        parts+=("$folder/first-$edition.o")
     done
     "$cc" -std=c99 "${warnings[@]}" "${flags[@]}" -o "$folder/three_headers" tests/c/three_headers.c "${parts[@]}" "$lib" "${more[@]}" &&
         "$folder/three_headers"
@@ -138,7 +138,7 @@ compiler() {
         folder=$room/$cc-$flavour
         mkdir -p "$folder"
         for edition in "${editions[@]}"; do
-            names=(layouts calls)
+            names=(layouts calls dates before_dates)
             [ "$edition" -lt 3 ] || names+=(vendor)
             for name in "${names[@]}" old_header; do
                 try "$cc, $flavour: $name compiled with edition $edition" program "$folder/$name-$edition" "$edition" "tests/c/$name.c"
@@ -186,6 +186,7 @@ typedef char itself[BOARDID_EDITION == $edition ? 1 : -1];"
 #include \"edition-$other/boardid.h\""
         done
     done
+    brought_by 1 BOARDID_READING_DATE 'sizeof(struct boardid_date)' boardid_record_date
     brought_by 2 BOARDID_FBOSS_X86_CPU_MAC_ADDRESSES BOARDID_FBOSS_BMC_MAC_ADDRESSES BOARDID_FBOSS_SWITCH_ASIC_MAC_ADDRESSES \
         BOARDID_FBOSS_META_RESERVED_MAC_ADDRESSES BOARDID_VPD_INFO BOARDID_TINY_PRODUCT_IDENTITY_BATCH \
         BOARDID_TINY_SYSTEM_PRODUCT_IDENTITY_BATCH BOARDID_READING_IDENTITY_WITH_BATCH boardid_record_batch
@@ -199,7 +200,8 @@ typedef char itself[BOARDID_EDITION == $edition ? 1 : -1];"
         BOARDID_VENDOR_L_BAND_WEST_IN BOARDID_VENDOR_L_BAND_WEST_OUT BOARDID_VENDOR_L_BAND_EAST_IN BOARDID_VENDOR_L_BAND_EAST_OUT \
         'sizeof(struct boardid_vendor_block)' boardid_signed_word_at boardid_vendor_block_at boardid_vendor_piece_at \
         boardid_vendor_piece_set boardid_vendor_offsets_word boardid_vendor_read boardid_vendor_write \
-        boardid_vendor_read_payload boardid_vendor_write_payload
+        boardid_vendor_read_payload boardid_vendor_write_payload \
+        BOARDID_READING_DATE_WITH_TIME 'sizeof(struct boardid_time)' boardid_record_time
 }
 
 # brought_by EDITION NAME..: the headers from an edition on have these names, and those before have none of them.

@@ -9,6 +9,7 @@
 #define _DEFAULT_SOURCE
 
 #include "answers.h"
+#include "checks.h"
 
 /* What begins the value of an entry that has a piece. */
 #define PREFIX "00 00 1F 79 00 "
@@ -22,31 +23,6 @@ static const int8_t zeros[8];
 static const int8_t ends[8] = {-128, -1, 0, 24, 127, -2, 1, -127};
 
 /* ---- What is lent --------------------------------------------------------------------------- */
-
-/* The CRC-32 of IEEE 802.3, bit by bit. */
-static uint32_t check_of(const uint8_t *bytes, size_t length)
-{
-    uint32_t check = 0xFFFFFFFF;
-    size_t i;
-    int bit;
-
-    for (i = 0; i < length; i++) {
-        check ^= bytes[i];
-        for (bit = 0; bit < 8; bit++) {
-            check = (check & 1) != 0 ? check >> 1 ^ 0xEDB88320 : check >> 1;
-        }
-    }
-    return check ^ 0xFFFFFFFF;
-}
-
-/* Puts a check at a place, high byte first. */
-static void put_check(uint8_t *bytes, uint32_t check)
-{
-    bytes[0] = (uint8_t)(check >> 24);
-    bytes[1] = (uint8_t)(check >> 16);
-    bytes[2] = (uint8_t)(check >> 8);
-    bytes[3] = (uint8_t)check;
-}
 
 /* Bytes that are being put together. */
 struct made {
@@ -75,7 +51,7 @@ static void put_hex(struct made *made, const char *hex)
 /* Puts the check of all that is there. */
 static void put_its_check(struct made *made)
 {
-    put_check(made->bytes + made->length, check_of(made->bytes, made->length));
+    put_check32(made->bytes + made->length, check32_of(made->bytes, made->length));
     made->length += 4;
 }
 
@@ -438,7 +414,7 @@ static void judged_block(const struct made *payload, uint32_t number, const char
 {
     struct made other = *payload;
     uint8_t *check = other.bytes + other.length - 4;
-    uint32_t right = check_of(payload->bytes, payload->length - 4);
+    uint32_t right = check32_of(payload->bytes, payload->length - 4);
     struct lent image = lend_image_of(payload->bytes, payload->length);
     int bit;
 
@@ -449,13 +425,13 @@ static void judged_block(const struct made *payload, uint32_t number, const char
     }
     give_back(image);
     for (bit = 0; bit < 32; bit++) {
-        put_check(check, right ^ (uint32_t)1 << bit);
+        put_check32(check, right ^ (uint32_t)1 << bit);
         image = lend_image_of(other.bytes, other.length);
         expect_no_payload(image, 19, 0, what);
         give_back(image);
     }
-    put_check(check, (right & 0xFF) << 24 | (right & 0xFF00) << 8 | (right >> 8 & 0xFF00) |
-                         right >> 24);
+    put_check32(check, (right & 0xFF) << 24 | (right & 0xFF00) << 8 | (right >> 8 & 0xFF00) |
+                           right >> 24);
     image = lend_image_of(other.bytes, other.length);
     expect_no_payload(image, 19, 0, what);
     give_back(image);
@@ -661,6 +637,11 @@ static void images(void)
         expect_no_payload(image, 7, start, "an FDh of three bytes");
         give_back(image);
         entries.length -= 5;
+        put_hex(&entries, "25 13 30 32 2F 32 39 2F 32 30 32 33 20 30 30 3A 30 30 3A 30 30");
+        image = lend_image(&entries);
+        expect_no_payload(image, 7, start, "29 February 2023");
+        give_back(image);
+        entries.length -= 21;
         put_hex(&entries, "21 00 21 00");
         image = lend_image(&entries);
         expect_no_payload(image, 8, start + 2, "a name twice");
