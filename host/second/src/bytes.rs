@@ -7,7 +7,7 @@
 //! the call gives no part.
 
 use crate::refusal::{Reason, Refusal};
-use crate::{Entry, Field, Identity, Payload, Reading, Walk};
+use crate::{Date, Entry, Field, Identity, Payload, Reading, Walk};
 
 /// The length of a record in bytes.
 pub const RECORD: usize = 64;
@@ -195,6 +195,12 @@ fn reading_words(reading: &Reading) -> (u32, Vec<u32>) {
             words.push(batch);
             (7, words)
         }
+        Reading::Date(date) => (8, date_words(date)),
+        Reading::DateWithTime(date, time) => {
+            let mut words = date_words(date);
+            words.extend([time.hour, time.minute, time.second]);
+            (9, words)
+        }
     }
 }
 
@@ -207,6 +213,10 @@ fn identity_words(identity: Identity) -> Vec<u32> {
         identity.free0.into(),
         identity.free1.into(),
     ]
+}
+
+fn date_words(date: Date) -> Vec<u32> {
+    vec![date.year, date.month, date.day]
 }
 
 /// The whole words of lent bytes.

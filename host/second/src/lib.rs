@@ -2,7 +2,7 @@
 //!
 //! It reads, writes and edits images of four layouts: FBOSS v5 (format 1), VPD 2.0 (format 2), Tiny
 //! EEPROM version 2 (format 3) and ONIE (format 4), and reads and writes the vendor blocks of an ONIE
-//! image. It is written from the scope document (01) and the change requests (02, items 1, 3 and 4)
+//! image. It is written from the scope document (01) and the change requests (02, items 1, 3, 4 and 5)
 //! alone, so that its answers can be compared with those of the library proper. Clarity comes before
 //! speed here.
 //!
@@ -12,6 +12,7 @@
 
 mod accept;
 mod checks;
+mod dates;
 mod formats;
 mod frames;
 mod names;
@@ -44,6 +45,8 @@ pub enum Reading {
     TestFlags { byte: u8, passed: u8 },
     Identity(Identity),
     IdentityWithBatch(Identity, u32),
+    Date(Date),
+    DateWithTime(Date, Time),
 }
 
 /// A Tiny product identity: two string numbers and a revision.
@@ -55,6 +58,22 @@ pub struct Identity {
     pub minor: u8,
     pub free0: u8,
     pub free1: u8,
+}
+
+/// A day of the Gregorian calendar, which goes back to year 1.
+#[derive(Clone, Copy, Debug, PartialEq, Eq)]
+pub struct Date {
+    pub year: u32,
+    pub month: u32,
+    pub day: u32,
+}
+
+/// A time of day.
+#[derive(Clone, Copy, Debug, PartialEq, Eq)]
+pub struct Time {
+    pub hour: u32,
+    pub minute: u32,
+    pub second: u32,
 }
 
 /// One entry of an accepted image. All places count bytes of the image.

@@ -1,5 +1,6 @@
 //! What the editions name, the rules of named entries and their readings.
 
+use crate::dates;
 use crate::formats::{Edition, Format, ONIE_EXTENSION, POOL, VPD_INFO, VPD_STRING};
 use crate::{Identity, Reading};
 
@@ -52,7 +53,7 @@ pub(crate) fn keeps_rule(format: Format, code: u8, key: &[u8], value: &[u8]) -> 
         (Format::Fboss, 3) => value.len() == 8 && is_text(value),
         (Format::Fboss, 4 | 5) => value.len() == 12 && is_text(value),
         (Format::Fboss, 8..=10) => value.len() == 1,
-        (Format::Fboss, 13) => is_date(value),
+        (Format::Fboss, 13) => dates::date(value).is_some(),
         (Format::Fboss, 17..=20) => value.len() == 8,
         (Format::Fboss, _) => value.len() <= 255 && is_text(value),
 
@@ -73,7 +74,7 @@ pub(crate) fn keeps_rule(format: Format, code: u8, key: &[u8], value: &[u8]) -> 
         (Format::Tiny, _) => value.len() == usize::from(code >> 4),
 
         (Format::Onie, 0x24) => value.len() == 6,
-        (Format::Onie, 0x25) => is_date_with_time(value),
+        (Format::Onie, 0x25) => dates::date_with_time(value).is_some(),
         (Format::Onie, 0x2A) => value.len() == 2,
         (Format::Onie, 0x2C) => value.len() == 2 && value.iter().all(u8::is_ascii_uppercase),
         (Format::Onie, ONIE_EXTENSION) => (4..=255).contains(&value.len()),
@@ -100,27 +101,6 @@ fn is_key_byte(byte: u8) -> bool {
     byte.is_ascii_alphanumeric() || byte == b'_'
 }
 
-/// Eight digits YYYYMMDD, with a month from 01 to 12 and a day from 01 to 31.
-fn is_date(value: &[u8]) -> bool {
-    let two_digits = |tens: u8, ones: u8| (tens - b'0') * 10 + (ones - b'0');
-    match *value {
-        [_, _, _, _, m0, m1, d0, d1] if value.iter().all(u8::is_ascii_digit) => {
-            (1..=12).contains(&two_digits(m0, m1)) && (1..=31).contains(&two_digits(d0, d1))
-        }
-        _ => false,
-    }
-}
-
-/// Nineteen bytes MM/DD/YYYY HH:NN:SS, with any digits.
-fn is_date_with_time(value: &[u8]) -> bool {
-    let pattern = b"00/00/0000 00:00:00";
-    let fits = |(byte, &wanted): (&u8, &u8)| match wanted {
-        b'0' => byte.is_ascii_digit(),
-        mark => *byte == mark,
-    };
-    value.len() == pattern.len() && value.iter().zip(pattern).all(fits)
-}
-
 /// The major part is 00 to 99, or 0A to 0Z with the top bit on. The minor part is 00 to 99.
 fn is_revision(major: u8, minor: u8) -> bool {
     matches!(major, 0..=99 | 128..=153) && minor <= 99
@@ -130,6 +110,7 @@ fn is_revision(major: u8, minor: u8) -> bool {
 pub(crate) fn reading(format: Format, code: u8, value: &[u8]) -> Reading {
     match (format, code, value) {
         (Format::Fboss, 8..=10, &[number]) => Reading::Number(u32::from(number)),
+        (Format::Fboss, 13, _) => dates::date(value).map_or(Reading::Plain, Reading::Date),
         (Format::Fboss, 17..=20, &[b0, b1, b2, b3, b4, b5, c0, c1]) => Reading::Addresses {
             base: address([b0, b1, b2, b3, b4, b5]),
             count: u32::from(u16::from_be_bytes([c0, c1])),
@@ -174,6 +155,10 @@ pub(crate) fn reading(format: Format, code: u8, value: &[u8]) -> Reading {
             base: address([b0, b1, b2, b3, b4, b5]),
             count: 1,
         },
+        (Format::Onie, 0x25, _) => dates::date_with_time(value)
+            .map_or(Reading::Plain, |(date, time)| {
+                Reading::DateWithTime(date, time)
+            }),
         (Format::Onie, 0x2A, &[high, low]) => {
             Reading::Number(u32::from(u16::from_be_bytes([high, low])))
         }
@@ -267,27 +252,6 @@ mod tests {
     }
 
     #[test]
-    fn dates() {
-        for good in [b"20130203", b"00000101", b"99991231", b"20230231"] {
-            assert!(is_date(good));
-        }
-        for bad in [
-            &b"2013020"[..],
-            b"201302030",
-            b"20130003",
-            b"20131303",
-            b"20130200",
-            b"20130232",
-            b"2013 203",
-            b"/0130203",
-            b"2013020:",
-            b"",
-        ] {
-            assert!(!is_date(bad));
-        }
-    }
-
-    #[test]
     fn vpd_rules() {
         let reader = |code, key: &[u8], value: &[u8]| keeps_rule(Format::Vpd, code, key, value);
         let writer =
@@ -347,11 +311,14 @@ mod tests {
             (Format::Fboss, 1, &b"text"[..]),
             (Format::Fboss, 1, b"\x00"),
             (Format::Fboss, 13, b"20130203"),
+            (Format::Fboss, 13, b"20130229"),
             (Format::Fboss, 13, b"20131303"),
             (Format::Tiny, POOL, b"any"),
             (Format::Tiny, 0x10, b""),
             (Format::Tiny, 0x10, b"1"),
             (Format::Onie, 0x21, b"text"),
+            (Format::Onie, 0x25, b"02/29/2024 23:59:59"),
+            (Format::Onie, 0x25, b"02/29/2023 23:59:59"),
             (Format::Onie, 0x2C, b"cz"),
         ] {
             for key in [&b""[..], b"k", b"lab.rack"] {
@@ -413,30 +380,6 @@ mod tests {
         for length in 0..300 {
             let keeps = keeps(0xFD, &vec![0xEE; length]);
             assert_eq!(keeps, (4..=255).contains(&length));
-        }
-    }
-
-    #[test]
-    fn onie_dates() {
-        let good = b"06/15/2023 12:34:56";
-        for date in [good, b"00/00/0000 00:00:00", b"99/99/9999 99:99:99"] {
-            assert!(is_date_with_time(date));
-        }
-        assert!(!is_date_with_time(b""));
-        assert!(!is_date_with_time(&good[..18]));
-        assert!(!is_date_with_time(b"06/15/2023 12:34:567"));
-        for place in 0..good.len() {
-            for byte in 0..=255 {
-                let mut date = *good;
-                date[place] = byte;
-                let fits = match place {
-                    2 | 5 => byte == b'/',
-                    10 => byte == b' ',
-                    13 | 16 => byte == b':',
-                    _ => byte.is_ascii_digit(),
-                };
-                assert_eq!(is_date_with_time(&date), fits);
-            }
         }
     }
 

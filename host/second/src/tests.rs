@@ -3,6 +3,7 @@
 use crate::checks::{check16, check32, check8};
 use crate::*;
 
+mod dates;
 mod onie;
 mod vendor;
 
@@ -294,7 +295,15 @@ mod source_examples {
             (10, b"\x01", Reading::Number(1)),
             (11, b"PS1234567890A", Reading::Text),
             (12, b"UNA_MAS", Reading::Text),
-            (13, b"20130203", Reading::Text),
+            (
+                13,
+                b"20130203",
+                Reading::Date(Date {
+                    year: 2013,
+                    month: 2,
+                    day: 3,
+                }),
+            ),
             (14, b"TERZO", Reading::Text),
             (15, b"JUICETORY", Reading::Text),
             (16, b"BUDOKAN", Reading::Text),
@@ -937,6 +946,8 @@ mod writes {
         };
         assert!(with(2, &[b'x'; 255]).is_ok());
         assert_eq!(with(2, &[b'x'; 256]), refused(7, 5));
+        assert!(with(13, b"20240229").is_ok());
+        assert_eq!(with(13, b"20230229"), refused(7, 5));
         assert_eq!(with(13, b"20241301"), refused(7, 5));
         assert_eq!(with(1, b"again"), refused(8, 5));
         assert_eq!(with(1, b"\x00"), refused(7, 5));
@@ -1745,11 +1756,22 @@ mod drawn {
             (0..self.below(limit)).map(|_| self.byte()).collect()
         }
 
+        /// A year, a month and a day that are mostly a day of the calendar.
+        fn near_a_day(&mut self) -> [u64; 3] {
+            let year = [0, 1, 1900, 2000, 2023, 2024, 9999][self.below(7) as usize];
+            [year, self.below(14), self.below(33)]
+        }
+
         /// Entries that often keep their frames and sometimes their rules.
         fn image(&mut self, format: u32) -> Vec<u8> {
             let mut entries = Vec::new();
             for _ in 0..self.below(6) {
                 match format {
+                    FBOSS if self.below(6) == 0 => {
+                        let [year, month, day] = self.near_a_day();
+                        entries.extend([13, 8]);
+                        entries.extend(format!("{year:04}{month:02}{day:02}").bytes());
+                    }
                     FBOSS => {
                         let code = 1 + self.below(24) as u8;
                         let length = [1, 8, 12][self.below(3) as usize];
@@ -1768,6 +1790,14 @@ mod drawn {
                         entries.extend(key);
                         entries.push(4);
                         entries.extend((0..4).map(|_| self.byte()));
+                    }
+                    ONIE if self.below(6) == 0 => {
+                        let [year, month, day] = self.near_a_day();
+                        let [hour, minute, second] = [25, 61, 61].map(|limit| self.below(limit));
+                        let date = format!("{month:02}/{day:02}/{year:04}");
+                        entries.extend([0x25, 19]);
+                        entries.extend(date.bytes());
+                        entries.extend(format!(" {hour:02}:{minute:02}:{second:02}").bytes());
                     }
                     ONIE => {
                         let (code, length) = [

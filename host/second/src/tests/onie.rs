@@ -38,7 +38,22 @@ const NAMED: [(u8, &[u8], Reading); 10] = [
             count: 1,
         },
     ),
-    (0x25, b"99/00/0000 29:60:99", Reading::Text),
+    (
+        0x25,
+        b"02/29/2024 23:59:58",
+        Reading::DateWithTime(
+            Date {
+                year: 2024,
+                month: 2,
+                day: 29,
+            },
+            Time {
+                hour: 23,
+                minute: 59,
+                second: 58,
+            },
+        ),
+    ),
     (0x2A, b"\x12\x34", Reading::Number(0x1234)),
     (0x2B, b"maker", Reading::Text),
     (0x2C, b"AZ", Reading::Text),
@@ -427,6 +442,18 @@ mod named_entries {
     #[test]
     fn the_switch() {
         let text = Reading::Text;
+        let date = Reading::DateWithTime(
+            Date {
+                year: 2023,
+                month: 6,
+                day: 15,
+            },
+            Time {
+                hour: 12,
+                minute: 34,
+                second: 56,
+            },
+        );
         let expected = vec![
             with_reading(0x21, 1057, 11, 13, 25, text),
             with_reading(0x22, 1058, 38, 40, 23, text),
@@ -442,7 +469,7 @@ mod named_entries {
                     count: 1,
                 },
             ),
-            with_reading(0x25, 1061, 83, 85, 19, text),
+            with_reading(0x25, 1061, 83, 85, 19, date),
             plain(0x26, 0, 104, 106, 1),
             plain(0x28, 0, 107, 109, 15),
             plain(0x29, 0, 124, 126, 7),
@@ -504,6 +531,9 @@ mod named_entries {
                     b"O1/02/2003 04:05:06",
                     b"01/02/2003 04:05:0 ",
                     b"2003/01/02 04:05:06",
+                    b"99/00/0000 29:60:99",
+                    b"02/29/2003 04:05:06",
+                    b"01/02/2003 24:00:00",
                 ],
             ),
             (0x2A, &[b"", b"1", b"123"]),
@@ -807,13 +837,16 @@ mod writes_and_edits {
                 3,
                 [0x24, 1060, 75, 77, 0, 77, 6, 0, 3, 0x0011, 0x22AA_BBCC, 1],
             ),
+            (4, [0x25, 1061, 83, 85, 0, 85, 19, 0, 9, 2023, 6, 15]),
             (5, [0x26, 0, 104, 106, 0, 106, 1, 0, 0, 0, 0, 0]),
             (8, [0x2A, 1066, 133, 135, 0, 135, 2, 0, 2, 3, 0, 0]),
             (12, [0xFD, 1277, 163, 165, 0, 165, 29, 0, 0, 0, 0, 0]),
         ] {
             assert_eq!(bytes::entry(ONIE, 3, SWITCH, n, &mut record), 1 << 32);
             assert_eq!(words(&record)[..12], expected);
-            assert_eq!(words(&record)[12..], [0; 4]);
+            // Only a date with its time carries more.
+            let more = if n == 4 { [12, 34, 56, 0] } else { [0; 4] };
+            assert_eq!(words(&record)[12..], more);
         }
     }
 }
