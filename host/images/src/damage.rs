@@ -7,7 +7,7 @@ use crate::image::{
 };
 use crate::random::Random;
 use crate::vpd::{self, Rule};
-use crate::{fboss, onie, tiny};
+use crate::{dates, fboss, onie, tiny};
 
 /// The bytes of an image with one to three things wrong, the check made right again in most.
 pub fn damaged(random: &mut Random, mut image: Image) -> Vec<u8> {
@@ -40,7 +40,9 @@ fn damage_entries(random: &mut Random, image: &mut Image) {
     let format = image.format;
     let count = image.entries.len();
     let place = random.below(count);
-    match random.below(9) {
+    let is_date = |entry: &Entry| dates::code(format) == Some(entry.code);
+    let date = image.entries.iter().position(is_date).unwrap_or(count);
+    match random.below(10) {
         // A second entry of the same code, and of the same key.
         0 | 1 if count > 0 => {
             let mut again = image.entries[place].clone();
@@ -93,6 +95,11 @@ fn damage_entries(random: &mut Random, image: &mut Image) {
         }
         // The entries in another order: in Tiny the pool may no longer be the last.
         7 => random.shuffle(&mut image.entries),
+        // A date that is no day, or has another form.
+        8 if date < count => {
+            let entry = &mut image.entries[date];
+            entry.value = broken(random, format, entry.code);
+        }
         // One entry more at the end: in Tiny it may stand after the pool.
         _ => {
             let code = match format {

@@ -1,5 +1,6 @@
 //! Generated FBOSS entries (01, FBOSS v5).
 
+use crate::dates;
 use crate::image::Entry;
 use crate::random::Random;
 
@@ -26,7 +27,7 @@ pub fn kept(random: &mut Random, code: u8) -> Vec<u8> {
         3 => random.text(8),
         4 | 5 => random.text(12),
         8..=10 => random.bytes(1),
-        13 => date(random),
+        13 => dates::fboss_text(dates::day(random)),
         17..=20 => random.bytes(8),
         _ => {
             let length = random.byte_length();
@@ -40,6 +41,9 @@ pub fn kept(random: &mut Random, code: u8) -> Vec<u8> {
 
 /// A value of at most 255 bytes that breaks the rule of a named code.
 pub fn broken(random: &mut Random, code: u8) -> Vec<u8> {
+    if code == 13 && random.once_in(2) {
+        return dates::fboss_text(dates::no_day(random));
+    }
     let mut value = kept(random, code);
     let of_any_length = !matches!(code, 3..=5 | 8..=10 | 13 | 17..=20);
     let of_any_bytes = matches!(code, 8..=10 | 17..=20);
@@ -49,16 +53,6 @@ pub fn broken(random: &mut Random, code: u8) -> Vec<u8> {
         } else {
             value.push(b'0');
         }
-    } else if code == 13 && random.once_in(2) {
-        let (place, digits) = random.pick(&[
-            (4, b"00"),
-            (4, b"13"),
-            (4, b"20"),
-            (6, b"00"),
-            (6, b"32"),
-            (6, b"40"),
-        ]);
-        value[place..place + 2].copy_from_slice(digits);
     } else {
         let wrong: &[u8] = match code {
             13 => b"/: A\x1F\x7F\xB0",
@@ -71,13 +65,6 @@ pub fn broken(random: &mut Random, code: u8) -> Vec<u8> {
         value[place] = random.pick(wrong);
     }
     value
-}
-
-fn date(random: &mut Random) -> Vec<u8> {
-    let year = random.pick(&[0, 1999, 2013, 2024, 9999]);
-    let month = random.between(1, 12);
-    let day = random.pick(&[1, 9, 10, 28, 29, 30, 31]);
-    format!("{year:04}{month:02}{day:02}").into_bytes()
 }
 
 /// The entries of an image that edition 1 accepts. Later editions accept it but for one in a few,

@@ -4,7 +4,7 @@ use crate::generate::{broken, kept, named, offered};
 use crate::image::{Format, LONGEST, POOL, VPD_INFO, VPD_STRING};
 use crate::random::Random;
 use crate::vpd::{self, Rule};
-use crate::{fboss, onie};
+use crate::{dates, fboss, onie};
 
 /// A field's five words: code, key place, key length, value place, value length.
 type Field = [u32; 5];
@@ -159,7 +159,9 @@ fn spoil(random: &mut Random, format: Format, list: &mut List) {
     }
     let at = random.below(count);
     let end = list.values.len() as u32;
-    match random.below(12) {
+    let is_date = |field: &Field| dates::code(format).map(u32::from) == Some(field[CODE]);
+    let date = list.fields.iter().position(is_date).unwrap_or(count);
+    match random.below(13) {
         // A code that the edition does not name, or that no entry has.
         0 => {
             let code = list.fields[at][CODE];
@@ -223,6 +225,8 @@ fn spoil(random: &mut Random, format: Format, list: &mut List) {
             let value = offered(random, format, code);
             list.add(u32::from(code), b"late", &value);
         }
+        // A date that is no day, or has another form.
+        11 if date < count => break_rule(random, format, list, date),
         // Two fields change places.
         _ => {
             let other = random.below(count);

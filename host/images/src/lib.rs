@@ -6,6 +6,7 @@
 
 pub mod checks;
 pub mod damage;
+pub mod dates;
 pub mod fboss;
 pub mod fields;
 pub mod generate;

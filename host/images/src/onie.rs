@@ -1,5 +1,6 @@
 //! Generated ONIE entries (02, ONIE images and edition 3).
 
+use crate::dates;
 use crate::image::{Entry, Format, ONIE_LONGEST};
 use crate::random::Random;
 
@@ -40,7 +41,7 @@ pub fn unnamed(random: &mut Random) -> u8 {
 pub fn kept(random: &mut Random, code: u8) -> Vec<u8> {
     match code {
         0x24 => random.bytes(6),
-        0x25 => date(random),
+        0x25 => dates::onie_text(dates::day(random), dates::time(random)),
         0x2A => random.bytes(2),
         0x2C => random.picks(b"AABCMYZZ", 2),
         EXTENSION => extension(random),
@@ -56,6 +57,13 @@ pub fn kept(random: &mut Random, code: u8) -> Vec<u8> {
 
 /// A value of at most 255 bytes that breaks the rule of a named code.
 pub fn broken(random: &mut Random, code: u8) -> Vec<u8> {
+    if code == 0x25 && random.once_in(2) {
+        return match random.below(5) {
+            0 | 1 => dates::onie_text(dates::no_day(random), dates::time(random)),
+            2 | 3 => dates::onie_text(dates::day(random), dates::no_time(random)),
+            _ => dates::onie_text(dates::no_day(random), dates::no_time(random)),
+        };
+    }
     let mut value = kept(random, code);
     let of_any_bytes = matches!(code, 0x24 | 0x2A);
     if code == EXTENSION {
@@ -87,18 +95,6 @@ pub fn broken(random: &mut Random, code: u8) -> Vec<u8> {
         };
     }
     value
-}
-
-/// A date with time, on the calendar and the clock or not.
-fn date(random: &mut Random) -> Vec<u8> {
-    let year = random.pick(&[0, 1999, 2013, 2024, 9999]);
-    let mut pair = |likely: usize| match random.below(4) {
-        0 => random.below(100),
-        _ => random.below(likely + 1),
-    };
-    let (month, day) = (pair(12), pair(31));
-    let (hour, minute, second) = (pair(23), pair(59), pair(59));
-    format!("{month:02}/{day:02}/{year:04} {hour:02}:{minute:02}:{second:02}").into_bytes()
 }
 
 /// A vendor extension: any bytes, the number of an enterprise and a version, or those and no more.
