@@ -3,6 +3,7 @@
 //! A case that a document gives is held to the document's answer, and library and second reader to
 //! each other. In a sweep the two are held to each other.
 
+mod dates;
 mod decisions;
 mod onie;
 mod scope;
@@ -17,7 +18,7 @@ use crate::comparison::{Comparison, RECORD};
 pub type Group = fn(&mut Comparison);
 
 /// All fixed cases, in groups that can be compared side by side.
-pub const GROUPS: [(&str, Group); 38] = [
+pub const GROUPS: [(&str, Group); 47] = [
     (
         "01, Both sides of each line",
         scope::both_sides_of_each_line,
@@ -49,6 +50,21 @@ pub const GROUPS: [(&str, Group); 38] = [
     ("02, vendor blocks: written", vendor::written),
     ("02, vendor blocks: read back", vendor::read_back),
     ("every byte of vendor extensions", vendor::every_byte),
+    ("02, real calendar days: examples", dates::examples),
+    (
+        "02, real calendar days: order in images",
+        dates::order_in_images,
+    ),
+    (
+        "02, real calendar days: order in writes and edits",
+        dates::order_in_writes_and_edits,
+    ),
+    ("every day of FBOSS dates", dates::fboss_days),
+    ("every day of ONIE dates", dates::onie_days),
+    ("every leap day", dates::leap_days),
+    ("every time of ONIE dates", dates::times),
+    ("every byte of dates", dates::every_byte),
+    ("other forms of dates", dates::forms),
     ("editions 2 and 3 alike", sweeps::editions_alike),
     ("every format and edition", sweeps::every_format_and_edition),
     ("every length", sweeps::every_length),

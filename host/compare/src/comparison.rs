@@ -32,6 +32,20 @@ const CAN_GIVE: [&[usize]; 10] = [
     &[1, 2, 12, 16, 18],
 ];
 
+/// The readings of a record, by number.
+const READINGS: [&str; 10] = [
+    "plain",
+    "text",
+    "number",
+    "addresses",
+    "string number",
+    "test flags",
+    "identity",
+    "identity with batch",
+    "date",
+    "date with time",
+];
+
 /// What was compared, in numbers.
 #[derive(Clone, Default)]
 pub struct Tally {
@@ -42,7 +56,7 @@ pub struct Tally {
     /// Calls by kind and by the number given back, 0 where nothing was refused.
     pub answers: [[u64; HIGHEST + 1]; 10],
     /// Records given, by reading.
-    pub readings: [u64; 8],
+    pub readings: [u64; READINGS.len()],
     /// Records given with kind 0.
     pub unnamed: u64,
 }
@@ -120,17 +134,7 @@ impl Tally {
 
     /// The records that were compared, by reading.
     pub fn records(&self) -> String {
-        let names = [
-            "plain",
-            "text",
-            "number",
-            "addresses",
-            "string number",
-            "test flags",
-            "identity",
-            "identity with batch",
-        ];
-        let readings: Vec<String> = names
+        let readings: Vec<String> = READINGS
             .iter()
             .zip(self.readings)
             .map(|(name, count)| format!("{name} {count}"))
@@ -319,7 +323,7 @@ impl Comparison {
         self.tally.answers[call.kind as usize][number] += 1;
         if number == 0 && matches!(call.kind, Kind::List | Kind::Entry | Kind::Step) {
             for record in room.chunks_exact(RECORD).take(count(answer)) {
-                self.tally.readings[usize::from(record[32]) % 8] += 1;
+                self.tally.readings[usize::from(record[32]) % READINGS.len()] += 1;
                 self.tally.unnamed += u64::from(record[4..8] == [0; 4]);
             }
         }

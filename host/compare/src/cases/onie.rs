@@ -50,9 +50,9 @@ const RULES: [(u8, Values, Values); 10] = [
         0x25,
         &[
             b"06/15/2023 12:34:56",
-            b"00/00/0000 00:00:00",
-            b"99/99/9999 99:99:99",
-            b"02/30/2023 24:60:60",
+            b"01/01/0001 00:00:00",
+            b"12/31/9999 23:59:59",
+            b"02/29/2024 20:02:29",
         ],
         &[
             b"",
@@ -72,6 +72,11 @@ const RULES: [(u8, Values, Values); 10] = [
             b"2023/06/15 12:34:56",
             b"06/15/2023 12:34:5\xB6",
             b"06/15/2023 12:34:5\x00",
+            b"00/00/0000 00:00:00",
+            b"99/99/9999 99:99:99",
+            b"02/30/2023 24:60:60",
+            b"02/31/2023 12:34:56",
+            b"06/15/2023 24:00:00",
         ],
     ),
     (
@@ -178,6 +183,7 @@ fn reading_of(code: u8, value: &[u8]) -> Vec<u32> {
     };
     match code {
         0x24 => vec![3, number(&value[..2]), number(&value[2..]), 1],
+        0x25 => dates::onie_reading(value),
         0x2A => vec![2, number(value)],
         EXTENSION => vec![0],
         _ => vec![1],
@@ -275,7 +281,7 @@ pub fn read(compare: &mut Comparison) {
         record_of(0x22, 38, 23, &[1]),
         record_of(0x23, 63, 10, &[1]),
         record_of(0x24, 75, 6, &[3, 0x0011, 0x22AA_BBCC, 1]),
-        record_of(0x25, 83, 19, &[1]),
+        record_of(0x25, 83, 19, &[9, 2023, 6, 15, 12, 34, 56]),
         record_of(0x26, 104, 1, &[0]),
         record_of(0x28, 107, 15, &[0]),
         record_of(0x29, 124, 7, &[0]),
@@ -572,7 +578,7 @@ pub fn rules(compare: &mut Comparison) {
         refused_image(compare, &image(entries), number, place);
     }
 
-    // Each byte of a text, of a country and of a date.
+    // Each byte of a text and of a country.
     for byte in 0..=255u8 {
         let capital = byte.is_ascii_uppercase();
         let text = (0x20..=0x7E).contains(&byte);
@@ -583,16 +589,6 @@ pub fn rules(compare: &mut Comparison) {
         for code in TEXTS {
             values.push((code, vec![byte], text));
             values.push((code, vec![b'a', byte, b'z'], text));
-        }
-        let date = b"06/15/2023 12:34:56";
-        for place in 0..date.len() {
-            let mut value = date.to_vec();
-            value[place] = byte;
-            let fits = match date[place] {
-                b'0'..=b'9' => byte.is_ascii_digit(),
-                mark => byte == mark,
-            };
-            values.push((0x25, value, fits));
         }
         compare.next_case();
         for (code, value, fits) in values {
@@ -799,7 +795,7 @@ pub fn edited(compare: &mut Comparison) {
             (1, 38, b"sdn-roadm-line-g2"),
             (2, 63, b"9876543210"),
             (3, 75, b"\xFE\xDC\xBA\x98\x76\x54"),
-            (4, 83, b"99/99/9999 99:99:99"),
+            (4, 83, b"02/29/2000 23:59:59"),
             (8, 133, b"\xFF\x00"),
             (9, 137, b" "),
             (10, 151, b"DE"),
@@ -833,6 +829,8 @@ pub fn edited(compare: &mut Comparison) {
             (0, &[b'x'; 256], refused(7, 11)),
             (3, b"12345", refused(7, 75)),
             (4, b"20230615", refused(7, 83)),
+            (4, b"99/99/9999 99:99:99", refused(7, 83)),
+            (4, b"02/29/1900 23:59:59", refused(7, 83)),
             (8, b"3", refused(7, 133)),
             (10, b"cz", refused(7, 151)),
             (12, b"123", refused(7, 163)),
