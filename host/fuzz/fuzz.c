@@ -3,8 +3,8 @@
  *
  * It needs no second implementation: it holds the calls to what document 01 says of all of them,
  * and to each other. A call that is refused leaves lent memory as it was, an accepted write or edit
- * is read back, a list is what its entries say one by one, a payload is what the vendor extensions of
- * a list hold, and so on. Where something does not hold the program stops.
+ * is read back, a list is what its entries say one by one, a date is a day, a payload is what the
+ * vendor extensions of a list hold, and so on. Where something does not hold the program stops.
  *
  * An input is seven bytes, then the second part, then the first part:
  *
@@ -305,6 +305,37 @@ static uint64_t header_of(uint32_t format) {
 }
 static uint32_t first_edition(uint32_t format) { return format == 4 ? 3 : 1; }
 
+/* A record's reading is one of the ten. Dates stand with their codes alone: they are days, and carry
+   what their digits say. */
+static void hold_reading(const uint8_t *image, const uint8_t *record) {
+    static const unsigned fboss_places[3] = {0, 4, 6}, onie_places[6] = {6, 0, 3, 11, 14, 17};
+    static const uint32_t last_days[13] = {0, 31, 29, 31, 30, 31, 30, 31, 31, 30, 31, 30, 31};
+    uint32_t kind = word(record, 1), reading = word(record, 8);
+    HOLDS(reading <= 9 && (reading == 0 || kind != 0));
+    HOLDS((reading == 8) == (kind == 256 + 13) && (reading == 9) == (kind == 1024 + 0x25));
+    if (reading < 8) return;
+
+    const uint8_t *value = image + word(record, 5);
+    const unsigned *places = reading == 8 ? fboss_places : onie_places;
+    unsigned carried = reading == 8 ? 3 : 6;
+    uint32_t numbers[7] = {0};
+    HOLDS(word(record, 6) == (reading == 8 ? 8 : 19));
+    for (unsigned k = 0; k < carried; k++) {
+        for (unsigned i = 0; i < (k == 0 ? 4u : 2u); i++) {
+            uint8_t digit = value[places[k] + i];
+            HOLDS(digit >= '0' && digit <= '9');
+            numbers[k] = numbers[k] * 10 + (digit - '0');
+        }
+    }
+    for (unsigned k = 0; k < 7; k++) HOLDS(word(record, 9 + k) == numbers[k]);
+    uint32_t year = numbers[0], month = numbers[1], day = numbers[2];
+    HOLDS(year >= 1 && month >= 1 && month <= 12 && day >= 1 && day <= last_days[month]);
+    if (month == 2 && day == 29) {
+        HOLDS(year % 4 == 0 && (year % 100 != 0 || year % 400 == 0));
+    }
+    HOLDS(numbers[3] <= 23 && numbers[4] <= 59 && numbers[5] <= 59);
+}
+
 /* An image that is accepted: its list, entry by entry, and those of the older editions. */
 static void hold_image(const struct request *r) {
     uint64_t entries, others;
@@ -320,6 +351,7 @@ static void hold_image(const struct request *r) {
         HOLDS(end <= r->first_len);
         HOLDS(word(record, 1) == 0 || word(record, 1) == r->format * 256 + word(record, 0));
         HOLDS(word(record, 7) == 0);
+        hold_reading(r->first, record);
         /* One by one is as slow as it sounds: a few are enough. */
         if (i < 8 || i + 2 > entries) {
             uint8_t one[RECORD];
