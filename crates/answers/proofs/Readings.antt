@@ -10,7 +10,7 @@ use Rattle.layout.specs.declared.Format.the-variants.{Fboss, Vpd, Tiny, Onie}
 use Rattle.layout.specs.declared.Reading.{Reading}
 use Rattle.layout.specs.declared.Reading.the-variants.{Addresses}
 use Rattle.layout.specs.Bytes.{between, part, highFirst}
-use Rattle.layout.specs.Fboss.{fboss, fbossReading}
+use Rattle.layout.specs.Fboss.{fboss, twoDigits, fourDigits, fbossReading}
 use Rattle.layout.specs.Vpd.{vpd}
 use Rattle.layout.specs.Tiny.{tiny, tinyReading, batch, passed}
 use Rattle.layout.specs.Onie.{onie, onieReading}
@@ -91,13 +91,32 @@ identity-words k v rest lt ps ws = then k (omega arith) (byte 0 (byte 1 (byte 2 
     byte : (i : ℕ) {ws : List ℕ} → Words ws → Words (getD v i 0 ∷ ws)
     byte i ws = then (getD v i 0) (omega (arith, byte-of v i ps)) ws
 
+-- what two digits of a value show, and four
+digits-below : (v : List ℕ) (i : ℕ) → Bytes v → twoDigits i v < 2278
+digits-below v i ps = omega (arith, byte-of v i ps, byte-of v (i + 1) ps)
+
+year-below : (v : List ℕ) (i : ℕ) → Bytes v → fourDigits i v < 230078
+year-below v i ps = let high = digits-below v i ps in let low = digits-below v (i + 2) ps in omega (arith, high, low)
+
+-- a date, and what comes after it
+date-words : (k : ℕ) (v rest : List ℕ) (y m d : ℕ) → k < 10 → Bytes v → Words rest → Words (k ∷ fourDigits y v ∷ twoDigits m v ∷ twoDigits d v ∷ rest)
+date-words k v rest y m d lt ps ws =
+    then k (omega arith)
+    (then (fourDigits y v) (omega (arith, year-below v y ps))
+    (then (twoDigits m v) (omega (arith, digits-below v m ps)) (then (twoDigits d v) (omega (arith, digits-below v d ps)) ws)))
+
+time-words : (v : List ℕ) (h m s : ℕ) → Bytes v → Words (twoDigits h v ∷ twoDigits m v ∷ twoDigits s v ∷ [])
+time-words v h m s ps =
+    then (twoDigits h v) (omega (arith, digits-below v h ps))
+    (then (twoDigits m v) (omega (arith, digits-below v m ps)) (then (twoDigits s v) (omega (arith, digits-below v s ps)) none))
+
 pub reading-words : (f : Format) (c : ℕ) (v : List ℕ) → Bytes v → ReadingWords (shape f .reading c v)
 unfolding fboss vpd tiny onie fbossReading tinyReading onieReading toldReading
 reading-words Fboss c v ps =
     either ReadingWords (between 8 10 c) (λ _. then 2 (omega arith) (then (getD v 0 0) (omega (arith, byte-of v 0 ps)) none))
     (λ _. either ReadingWords (between 17 20 c)
     (λ _. addresses-words (highFirst 0 (part 0 6 v)) (highFirst 0 (part 6 2 v)) (number-below 0 6 v ps) (number-below 6 2 v ps))
-    (λ _. then 1 (omega arith) none))
+    (λ _. either ReadingWords (eqb c 13) (λ _. date-words 8 v [] 0 4 6 (omega arith) ps none) (λ _. then 1 (omega arith) none)))
 reading-words Vpd c v ps = then 0 (omega arith) none
 reading-words Tiny c v ps =
     either ReadingWords (eqb c 0x10) (λ _. then 4 (omega arith) (then (getD v 0 0) (omega (arith, byte-of v 0 ps)) none))
@@ -111,4 +130,5 @@ reading-words Tiny c v ps =
 reading-words Onie c v ps =
     either ReadingWords (eqb c 0x24) (λ _. addresses-words (highFirst 0 (part 0 6 v)) 1 (number-below 0 6 v ps) (omega arith))
     (λ _. either ReadingWords (eqb c 0x2A) (λ _. then 2 (omega arith) (then (highFirst 0 (part 0 2 v)) (omega (arith, number-below 0 2 v ps)) none))
-    (λ _. either ReadingWords (eqb c 0xFD) (λ _. then 0 (omega arith) none) (λ _. then 1 (omega arith) none)))
+    (λ _. either ReadingWords (eqb c 0xFD) (λ _. then 0 (omega arith) none)
+    (λ _. either ReadingWords (eqb c 0x25) (λ _. date-words 9 v _ 6 0 3 (omega arith) ps (time-words v 11 14 17 ps)) (λ _. then 1 (omega arith) none))))

@@ -1,7 +1,7 @@
 -- Records in lent bytes lose nothing.
 -- Assumes nothing.
 use Prim.Native.Nat.{ℕ, zero, suc, _+_, _*_, _/_, _%_, _≤_, _<_}
-use mathlib.Core.Path.{_≡_, refl, _∙_}
+use mathlib.Core.Path.{_≡_, refl, sym, ap, _∙_}
 use mathlib.Core.List.{List, [], _∷_, _++_}
 use mathlib.Core.Bool.{Bool, false}
 use native.Mathlib.Omega.{arith}
@@ -11,7 +11,7 @@ use Rattle.layout.specs.declared.Format.{Format}
 use Rattle.layout.specs.declared.Format.the-variants.{Fboss, Vpd, Tiny, Onie}
 use Rattle.layout.specs.declared.Entry.{Entry}
 use Rattle.layout.specs.declared.Reading.{Reading}
-use Rattle.layout.specs.declared.Reading.the-variants.{Plain, Text, Number, Addresses, Numbered, Tests, Identified, Batched}
+use Rattle.layout.specs.declared.Reading.the-variants.{Plain}
 use Rattle.layout.specs.Fboss.{fboss}
 use Rattle.layout.specs.Vpd.{vpd}
 use Rattle.layout.specs.Tiny.{tiny}
@@ -29,7 +29,7 @@ use Rattle.laws.proofs.Passes.{raw-code}
 use Rattle.laws.proofs.Walking.{Frames}
 use Rattle.laws.proofs.Calls.{accepted-reading}
 use Rattle.records.specs.Words.{wordBytes, wordsBytes, readingWords, recordWords, recordBytes}
-use Rattle.records.proofs.Words.{length-words}
+use Rattle.records.proofs.Words.{length-words, reading-eight}
 use Rattle.promises.proofs.Entries.{Inside, held}
 use Rattle.answers.specs.Records.{WholeRecord, WholeRecords}
 use Rattle.answers.proofs.Readings.{Bytes, Words, each-take, each-part, byte-of, then, reading-words}
@@ -72,15 +72,7 @@ words-before ws t k fits lt = word-before (wordsBytes ws) t (k * 4) (omega (arit
 -- ---- records
 
 length-reading : (r : Reading) → length (readingWords r) ≡ 8
-unfolding toldReading
-length-reading Plain = refl
-length-reading Text = refl
-length-reading (Number n) = refl
-length-reading (Addresses base count) = refl
-length-reading (Numbered s) = refl
-length-reading (Tests byte n) = refl
-length-reading (Identified x) = refl
-length-reading (Batched x batch) = refl
+length-reading r = sym (ap length (reading-eight r))
 
 noughts : Words (replicate 8 0)
 noughts = then 0 z (then 0 z (then 0 z (then 0 z (then 0 z (then 0 z (then 0 z (then 0 z none)))))))

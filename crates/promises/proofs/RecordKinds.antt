@@ -1,4 +1,4 @@
--- Kind and reading of every record are those of document 01 and of document 02's third item.
+-- Kind and reading of every record are those of document 01 and of document 02's third and fifth items.
 -- Assumes nothing.
 use Prim.Native.Nat.{ℕ, zero, suc, _+_, _*_, _/_, _%_, _≤_}
 use mathlib.Core.Path.{_≡_, refl, sym, _∙_}
@@ -6,18 +6,18 @@ use mathlib.Core.List.{List, [], _∷_, _++_, map}
 use mathlib.Core.Logic.{inl, inr}
 use mathlib.Core.Bool.{Bool, true, false}
 use native.Mathlib.Omega.{arith}
-use lib.ListN.{length, getD}
+use lib.ListN.{length, getD, replicate}
 use lib.Dec.{leb, eqb}
-use borrow.Author.Tests.{leb-true, leb-false, le-leb, lt-leb, eqb-true}
+use borrow.Author.Tests.{leb-true, leb-false, le-leb, lt-leb, eqb-true, ne-eqb}
 use Rattle.layout.specs.declared.Format.{Format}
 use Rattle.layout.specs.declared.Format.the-variants.{Fboss, Vpd, Tiny, Onie}
-use Rattle.layout.specs.declared.Reading.the-variants.{Number, Addresses, Tests}
+use Rattle.layout.specs.declared.Reading.the-variants.{Text, Number, Addresses, Tests, Dated, Timed}
 use Rattle.layout.specs.Bytes.{between, oneOf, part, highFirst}
 use Rattle.layout.specs.Shape.{Label}
-use Rattle.layout.specs.Fboss.{fboss, fbossRule, fbossReading}
+use Rattle.layout.specs.Fboss.{fboss, fbossDate, dateRule, fbossRule, fbossReading}
 use Rattle.layout.specs.Vpd.{vpd}
 use Rattle.layout.specs.Tiny.{tiny, tinyReading, passed}
-use Rattle.layout.specs.Onie.{onie, onieRule, onieReading}
+use Rattle.layout.specs.Onie.{onie, dateForm, onieDate, onieTime, onieDateRule, onieRule, onieReading}
 use Rattle.layout.specs.Editions.{shape, names, kind}
 use Rattle.layout.specs.Walk.{Raw, Content, content, labelOf}
 use Rattle.layout.specs.Read.{readerRule}
@@ -33,6 +33,7 @@ use Rattle.promises.specs.Words.{FormatNumber, Serves}
 use Rattle.promises.specs.Names.{One, Two, Named, sinceOne, sinceTwo, sinceThree, tiny01, tiny10, tiny11, tiny60, tiny61, tiny62, tiny80, tiny81, onie21, onie22, onie23, onie24, onie25, onie2A, onie2B, onie2C, onie2D, onieFD}
 use Rattle.promises.specs.Kinds.{base, FbossMeans, VpdMeans, TinyMeans, OnieMeans, Means, Marked, MarkedList, Kinds}
 use Rattle.promises.proofs.Accepting.{lists, records-say}
+use Rattle.promises.proofs.Ruling.{tells-between, of-form, two-digits, four-digits, date-formed, stamp-formed}
 use Rattle.promises.proofs.Naming.{FromTo, each-between, named-names, unnamed-names}
 use Rattle.promises.proofs.Telling.{chosen-serves, counts-accepted}
 
@@ -65,17 +66,39 @@ two-bytes a b = omega arith
 ruled-length : (n k a c : ℕ) (v : List ℕ) → FromTo (λ c. fbossRule c v ≡ eqb (length v) n) k a → between a (a + k) c ≡ true → fbossRule c v ≡ true → length v ≡ n
 ruled-length n k a c v is t rule = eqb-true (length v) n (sym (each-between (λ c. fbossRule c v ≡ eqb (length v) n) k a c is t) ∙ rule)
 
+-- year, month and day are the numbers that the digits show
+date-means : (v : List ℕ) → dateRule v ≡ true → FbossMeans 13 v (Dated (fbossDate v))
+date-means v rule =
+    of-form (replicate 8 0x30) (λ v. FbossMeans 13 v (Dated (fbossDate v)))
+    (λ a a9 b b9 c c9 d d9 m m9 n n9 x x9 y y9.
+    rw (four-digits a b c d, two-digits m n, two-digits x y)
+    (FbossMeans.date a b c d m n x y refl (also a9 (also b9 (also c9 (also d9 (also m9 (also n9 (also x9 (also y9 none))))))))))
+    v (date-formed v rule)
+
+-- a value that passes the test of a code has its reading
+abbrev FbossRead : List ℕ → ℕ → Type 0
+FbossRead v c = fbossRule c v ≡ true → FbossMeans c v (fbossReading c v)
+
 fboss-means : (e c : ℕ) (v : List ℕ) → Named Fboss e c → fbossRule c v ≡ true → FbossMeans c v (fbossReading c v)
 unfolding fbossReading fbossRule oneOf part
 fboss-means e c v (sinceOne le (One.fboss a z)) rule = go (leb 8 c) (leb c 10) refl refl
   where
+    before : (c : ℕ) → between 11 12 c ≡ true → FbossMeans c v Text
+    before c w = FbossMeans.text (inr (inl (tells-between 11 12 c .to w)))
+
+    after : (c : ℕ) → between 14 16 c ≡ true → FbossMeans c v Text
+    after c w = FbossMeans.text (inr (inr (tells-between 14 16 c .to w)))
+
+    from11 : FromTo (FbossRead v) 5 11
+    from11 = (λ _. before 11 refl, (λ _. before 12 refl, (date-means v, (λ _. after 14 refl, (λ _. after 15 refl, λ _. after 16 refl)))))
+
     go : (s t : Bool) → leb 8 c ≡ s → leb c 10 ≡ t → FbossMeans c v (fbossReading c v)
     go true true s t =
         rw (s, t)
         (of-bytes 1 (λ v. FbossMeans c v (Number (getD v 0 0))) (λ b. FbossMeans.number b (leb-true 8 c s) (leb-true c 10 t))
         v (ruled-length 1 2 8 c v (refl, (refl, refl)) (rw (s, t)) rule))
-    go true false s t = rw (s, t, lt-leb 17 c (omega arith)) (FbossMeans.text (inr (leb-false c 10 t, z)))
-    go false t s u = rw (s, lt-leb 17 c (omega arith)) (FbossMeans.text (inl (omega (arith, leb-false 8 c s))))
+    go true false s t = let le = leb-false c 10 t in each-between (FbossRead v) 5 11 c from11 (rw (le-leb 11 c le, le-leb c 16 z)) rule
+    go false t s u = rw (s, lt-leb 17 c (omega arith), ne-eqb c 13 (omega (arith, leb-false 8 c s))) (FbossMeans.text (inl (omega (arith, leb-false 8 c s))))
 fboss-means e c v (sinceTwo le (Two.fboss a z)) rule =
     rw (lt-leb c 10 (omega arith), le-leb 8 c (omega arith), le-leb 17 c a, le-leb c 20 z)
     (of-bytes 8 (λ v. FbossMeans c v (Addresses (highFirst 0 (part 0 6 v)) (highFirst 0 (part 6 2 v))))
@@ -114,6 +137,15 @@ tiny-means e c lens v (sinceTwo le tiny81) s =
 
 -- ---- ONIE
 
+stamp-means : (v : List ℕ) → onieDateRule v ≡ true → OnieMeans 0x25 v (Timed (onieDate v) (onieTime v))
+stamp-means v rule =
+    of-form dateForm (λ v. OnieMeans 0x25 v (Timed (onieDate v) (onieTime v)))
+    (λ m₁ a₁ m₂ a₂ d₁ a₃ d₂ a₄ y₁ a₅ y₂ a₆ y₃ a₇ y₄ a₈ h₁ a₉ h₂ b₁ n₁ b₂ n₂ b₃ s₁ b₄ s₂ b₅.
+    let clock = also a₉ (also b₁ (also b₂ (also b₃ (also b₄ (also b₅ none))))) in
+    rw (four-digits y₁ y₂ y₃ y₄, two-digits m₁ m₂, two-digits d₁ d₂, two-digits h₁ h₂, two-digits n₁ n₂, two-digits s₁ s₂)
+    (OnieMeans.date m₁ m₂ d₁ d₂ y₁ y₂ y₃ y₄ h₁ h₂ n₁ n₂ s₁ s₂ refl (also a₁ (also a₂ (also a₃ (also a₄ (also a₅ (also a₆ (also a₇ (also a₈ clock))))))))))
+    v (stamp-formed v rule)
+
 onie-means : (e c : ℕ) (v : List ℕ) → Named Onie e c → onieRule c v ≡ true → OnieMeans c v (onieReading c v)
 unfolding onieReading onieRule oneOf part
 onie-means e c v (sinceThree le onie21) rule = OnieMeans.text (inl (omega arith, omega arith))
@@ -123,12 +155,12 @@ onie-means e c v (sinceThree le onie24) rule =
     of-bytes 6 (λ v. OnieMeans 0x24 v (Addresses (highFirst 0 (part 0 6 v)) 1))
     (λ b₀ b₁ b₂ b₃ b₄ b₅. rw (base-is b₀ b₁ b₂ b₃ b₄ b₅ []) (OnieMeans.addresses b₀ b₁ b₂ b₃ b₄ b₅ refl))
     v (eqb-true (length v) 6 rule)
-onie-means e c v (sinceThree le onie25) rule = OnieMeans.text (inr (inl refl))
+onie-means e c v (sinceThree le onie25) rule = stamp-means v rule
 onie-means e c v (sinceThree le onie2A) rule =
     of-bytes 2 (λ v. OnieMeans 0x2A v (Number (highFirst 0 (part 0 2 v)))) (λ a b. rw (two-bytes a b) (OnieMeans.number a b refl)) v (eqb-true (length v) 2 rule)
-onie-means e c v (sinceThree le onie2B) rule = OnieMeans.text (inr (inr (omega arith, omega arith)))
-onie-means e c v (sinceThree le onie2C) rule = OnieMeans.text (inr (inr (omega arith, omega arith)))
-onie-means e c v (sinceThree le onie2D) rule = OnieMeans.text (inr (inr (omega arith, omega arith)))
+onie-means e c v (sinceThree le onie2B) rule = OnieMeans.text (inr (omega arith, omega arith))
+onie-means e c v (sinceThree le onie2C) rule = OnieMeans.text (inr (omega arith, omega arith))
+onie-means e c v (sinceThree le onie2D) rule = OnieMeans.text (inr (omega arith, omega arith))
 onie-means e c v (sinceThree le onieFD) rule = OnieMeans.plain refl
 
 -- ---- any format

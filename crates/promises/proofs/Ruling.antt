@@ -1,4 +1,4 @@
--- The definitions' tests of named entries are document 01's rules and those of document 02's first and third items.
+-- The definitions' tests of named entries are document 01's rules and those of document 02's first, third and fifth items.
 -- Assumes nothing.
 use Prim.Native.Nat.{ℕ, zero, suc, _+_, _-_, _*_, _/_, _≤_, _<_}
 use mathlib.Core.Path.{_≡_, refl}
@@ -13,10 +13,12 @@ use borrow.Author.Tests.{ltb-true, ltb-false, lt-ltb, le-ltb, leb-true, le-leb, 
 use Rattle.layout.specs.declared.Format.{Format}
 use Rattle.layout.specs.declared.Format.the-variants.{Fboss, Vpd, Tiny, Onie}
 use Rattle.layout.specs.Bytes.{if, between, all, oneOf}
-use Rattle.layout.specs.Fboss.{fboss, fbossRule, dateRule, digit, twoDigits, printable}
+use Rattle.layout.specs.Calendar.{isDay, isTime, date}
+use Rattle.layout.specs.Years.{Printed}
+use Rattle.layout.specs.Fboss.{fboss, fbossRule, dateRule, digit, twoDigits, fourDigits, printable}
 use Rattle.layout.specs.Vpd.{vpd, vpdReaderKey, vpdRule, keyByte}
 use Rattle.layout.specs.Tiny.{tiny, tinyRule, tinyTakes, revisionRule, batch}
-use Rattle.layout.specs.Onie.{fitsForm, onie, onieRule, formed, dateForm, capital}
+use Rattle.layout.specs.Onie.{fitsForm, onie, onieRule, formed, dateForm, onieDateRule, capital}
 use Rattle.layout.specs.Editions.{shape}
 use Rattle.layout.specs.Walk.{Content}
 use Rattle.layout.specs.Read.{readerRule}
@@ -25,6 +27,7 @@ use Rattle.layout.specs.Edit.{editRule}
 use Rattle.laws.specs.Grammar.{grammar, EntryOf, Each, none, also, TinySays}
 use Rattle.laws.proofs.Choices.{false-true, either, both}
 use Rattle.laws.proofs.Vpd.{writer-key}
+use Rattle.laws.proofs.Years.{calendar}
 use Rattle.promises.specs.Names.{One, Two, Named, sinceOne, sinceTwo, sinceThree, vpd01, tiny01, tiny10, tiny11, tiny60, tiny61, tiny62, vpdFE, tiny80, tiny81, onie21, onie22, onie23, onie24, onie25, onie2A, onie2B, onie2C, onie2D, onieFD}
 use Rattle.promises.specs.Rules.{Exactly, Between, Printable, TextCode, KeyByte, FbossValue, VpdKey, VpdValue, Revision, TinyValue, OnieValue, KeyRule, AlphabetRule, ValueRule, LengthRule, Rules}
 use Rattle.promises.proofs.Naming.{FromTo, each-between}
@@ -32,7 +35,7 @@ use Rattle.promises.proofs.Naming.{FromTo, each-between}
 -- ---- a test is exactly what it tests
 
 -- a test passes exactly where this holds
-abbrev Tells : Bool → Type 0 → Type 0
+abbrev pub Tells : Bool → Type 0 → Type 0
 Tells b A = Exactly (b ≡ true) A
 
 tells-le : (a b : ℕ) → Tells (leb a b) (a ≤ b)
@@ -70,7 +73,7 @@ tells-or {a} {b} {A} {B} x y = record { to = to a x; from = from }
     from (inl p) = rw (x .from p) refl
     from (inr q) = right a (y .from q)
 
-tells-between : (a b x : ℕ) → Tells (between a b x) (Between a b x)
+pub tells-between : (a b x : ℕ) → Tells (between a b x) (Between a b x)
 tells-between a b x = tells-both (tells-le a x) (tells-le x b)
 
 -- what holds of each code of a to a + k holds of one between them
@@ -103,11 +106,11 @@ digits : (v : List ℕ) → Tells (all digit v) (Each (Between 0x30 0x39) v)
 digits v = tells-all (tells-between 0x30 0x39) v
 
 -- what holds of every byte that a byte of a form stands for, and of every list of a form, digit by digit
-abbrev OfByte : Bool → ℕ → (ℕ → Type 0) → Type 0
+abbrev pub OfByte : Bool → ℕ → (ℕ → Type 0) → Type 0
 OfByte true x P = (a : ℕ) → a ≤ 9 → P (0x30 + a)
 OfByte false x P = P x
 
-abbrev OfForm : List ℕ → (List ℕ → Type 0) → Type 0
+abbrev pub OfForm : List ℕ → (List ℕ → Type 0) → Type 0
 OfForm [] P = P []
 OfForm (x ∷ xs) P = OfByte (eqb x 0x30) x (λ b. OfForm xs (λ bs. P (b ∷ bs)))
 
@@ -118,7 +121,7 @@ of-byte true x b P h q =
     rw is at (h (b - 0x30) (omega arith))
 of-byte false x b P h q = rw (eqb-true b x q) h
 
-of-form : (form : List ℕ) (P : List ℕ → Type 0) → OfForm form P → (v : List ℕ) → formed form v ≡ true → P v
+pub of-form : (form : List ℕ) (P : List ℕ → Type 0) → OfForm form P → (v : List ℕ) → formed form v ≡ true → P v
 unfolding formed
 of-form [] P h [] q = h
 of-form [] P h (b ∷ bs) q = false-true q
@@ -140,28 +143,34 @@ digit-byte a a9 = (omega arith, omega arith)
 digit-passes : (a : ℕ) → a ≤ 9 → digit (0x30 + a) ≡ true
 digit-passes a a9 = tells-between 0x30 0x39 (0x30 + a) .from (digit-byte a a9)
 
--- the number that two digits show
-two-digits : (m n : ℕ) → (0x30 + m - 0x30) * 10 + (0x30 + n - 0x30) ≡ m * 10 + n
+-- the numbers that two digits show, and four
+pub two-digits : (m n : ℕ) → (0x30 + m - 0x30) * 10 + (0x30 + n - 0x30) ≡ m * 10 + n
 two-digits m n = omega arith
+
+pub four-digits : (a b c d : ℕ) → ((0x30 + a - 0x30) * 10 + (0x30 + b - 0x30)) * 100 + ((0x30 + c - 0x30) * 10 + (0x30 + d - 0x30)) ≡ a * 1000 + b * 100 + c * 10 + d
+four-digits a b c d = rw (two-digits a b, two-digits c d) (omega arith)
+
+tells-day : (y m d : ℕ) → Tells (isDay (date y m d)) (Printed y m d)
+tells-day y m d = record { to = calendar .taken y m d; from = calendar .known y m d }
 
 -- what the test of a date tests
 abbrev Dated : List ℕ → Type 0
-Dated v = (((length v ≡ 8) × Each (Between 0x30 0x39) v) × Between 1 12 (twoDigits 4 v)) × Between 1 31 (twoDigits 6 v)
+Dated v = ((length v ≡ 8) × Each (Between 0x30 0x39) v) × Printed (fourDigits 0 v) (twoDigits 4 v) (twoDigits 6 v)
 
 tells-date : (v : List ℕ) → Tells (dateRule v) (Dated v)
 unfolding dateRule
-tells-date v =
-    tells-both (tells-both (tells-both (tells-eq (length v) 8) (digits v)) (tells-between 1 12 (twoDigits 4 v))) (tells-between 1 31 (twoDigits 6 v))
+tells-date v = tells-both (tells-both (tells-eq (length v) 8) (digits v)) (tells-day (fourDigits 0 v) (twoDigits 4 v) (twoDigits 6 v))
+
+-- a date has eight digits
+pub date-formed : (v : List ℕ) → dateRule v ≡ true → formed (replicate 8 0x30) v ≡ true
+date-formed v h = let w = tells-date v .to h .0 in rw (w .0) at (digits-formed v (digits v .from (w .1)))
 
 date-kept : (v : List ℕ) → dateRule v ≡ true → FbossValue 13 v
-date-kept v h = go (tells-date v .to h)
-  where
-    go : Dated v → FbossValue 13 v
-    go (((eight, ds), month), day) =
-        of-form (replicate 8 0x30) (λ v. Between 1 12 (twoDigits 4 v) → Between 1 31 (twoDigits 6 v) → FbossValue 13 v)
-        (λ a a9 b b9 c c9 d d9 m m9 n n9 x x9 y y9 month day.
-        FbossValue.date a b c d m n x y refl a9 b9 c9 d9 m9 n9 x9 y9 (rw (two-digits m n) at month) (rw (two-digits x y) at day))
-        v (rw eight at (digits-formed v (digits v .from ds))) month day
+date-kept v h =
+    of-form (replicate 8 0x30) (λ v. Printed (fourDigits 0 v) (twoDigits 4 v) (twoDigits 6 v) → FbossValue 13 v)
+    (λ a a9 b b9 c c9 d d9 m m9 n n9 x x9 y y9 day.
+    FbossValue.date a b c d m n x y refl a9 b9 c9 d9 m9 n9 x9 y9 (rw (four-digits a b c d, two-digits m n, two-digits x y) at day))
+    v (date-formed v h) (tells-date v .to h .1)
 
 -- 01's line of text codes as a test
 tells-text : (code : ℕ) → Tells (between 1 2 code || (between 6 7 code || (between 11 12 code || between 14 16 code))) (TextCode code)
@@ -209,10 +218,10 @@ fboss-passes {v} (FbossValue.text (inr (inr (inl w))) ts) = let t = printables v
 fboss-passes {v} (FbossValue.text (inr (inr (inr w))) ts) = let t = printables v .from ts in within (Passes v) 2 14 (t, (t, t)) w
 fboss-passes {v} (FbossValue.eight is n ts) = rw is (tells-long 8 v .from (n, ts))
 fboss-passes {v} (FbossValue.twelve w n ts) = let t = tells-long 12 v .from (n, ts) in within (Passes v) 1 4 (t, t) w
-fboss-passes (FbossValue.date a b c d m n x y is a9 b9 c9 d9 m9 n9 x9 y9 month day) =
+fboss-passes (FbossValue.date a b c d m n x y is a9 b9 c9 d9 m9 n9 x9 y9 day) =
     let calendar = also (digit-byte m m9) (also (digit-byte n n9) (also (digit-byte x x9) (also (digit-byte y y9) none))) in
     let all = also (digit-byte a a9) (also (digit-byte b b9) (also (digit-byte c c9) (also (digit-byte d d9) calendar))) in
-    rw is (tells-date _ .from (((refl, all), rw (two-digits m n) month), rw (two-digits x y) day))
+    rw is (tells-date _ .from ((refl, all), rw (four-digits a b c d, two-digits m n, two-digits x y) day))
 fboss-passes {v} (FbossValue.number w n) = let t = tells-eq (length v) 1 .from n in within (Passes v) 2 8 (t, (t, t)) w
 fboss-passes {v} (FbossValue.addresses w n) = let t = tells-eq (length v) 8 .from n in within (Passes v) 3 17 (t, (t, (t, t))) w
 
@@ -308,12 +317,38 @@ tiny-passes {v} (TinyValue.batched s p major minor x y low high w r most) =
 
 -- ---- ONIE
 
-date-formed : (v : List ℕ) → formed dateForm v ≡ true → OnieValue 0x25 v
-date-formed =
-    of-form dateForm (OnieValue 0x25)
-    (λ m₁ a₁ m₂ a₂ d₁ a₃ d₂ a₄ y₁ a₅ y₂ a₆ y₃ a₇ y₄ a₈ h₁ a₉ h₂ b₁ n₁ b₂ n₂ b₃ s₁ b₄ s₂ b₅.
+-- what the test of a date with time tests
+abbrev Stamped : List ℕ → Type 0
+Stamped v =
+    ((formed dateForm v ≡ true) × Printed (fourDigits 6 v) (twoDigits 0 v) (twoDigits 3 v))
+    × (((twoDigits 11 v ≤ 23) × (twoDigits 14 v ≤ 59)) × (twoDigits 17 v ≤ 59))
+
+tells-formed : (v : List ℕ) → Tells (formed dateForm v) (formed dateForm v ≡ true)
+tells-formed v = record { to = λ t. t; from = λ t. t }
+
+tells-stamp : (v : List ℕ) → Tells (onieDateRule v) (Stamped v)
+unfolding onieDateRule isTime
+tells-stamp v =
+    tells-both (tells-both (tells-formed v) (tells-day (fourDigits 6 v) (twoDigits 0 v) (twoDigits 3 v)))
+    (tells-both (tells-both (tells-le (twoDigits 11 v) 23) (tells-le (twoDigits 14 v) 59)) (tells-le (twoDigits 17 v) 59))
+
+-- a date with time has the form of one
+pub stamp-formed : (v : List ℕ) → onieDateRule v ≡ true → formed dateForm v ≡ true
+stamp-formed v h = tells-stamp v .to h .0 .0
+
+stamp-kept : (v : List ℕ) → onieDateRule v ≡ true → OnieValue 0x25 v
+stamp-kept v h =
+    of-form dateForm
+    (λ v. Printed (fourDigits 6 v) (twoDigits 0 v) (twoDigits 3 v) → twoDigits 11 v ≤ 23 → twoDigits 14 v ≤ 59 → twoDigits 17 v ≤ 59 → OnieValue 0x25 v)
+    (λ m₁ a₁ m₂ a₂ d₁ a₃ d₂ a₄ y₁ a₅ y₂ a₆ y₃ a₇ y₄ a₈ h₁ a₉ h₂ b₁ n₁ b₂ n₂ b₃ s₁ b₄ s₂ b₅ day hour minute second.
     let clock = also a₉ (also b₁ (also b₂ (also b₃ (also b₄ (also b₅ none))))) in
-    OnieValue.date m₁ m₂ d₁ d₂ y₁ y₂ y₃ y₄ h₁ h₂ n₁ n₂ s₁ s₂ refl (also a₁ (also a₂ (also a₃ (also a₄ (also a₅ (also a₆ (also a₇ (also a₈ clock)))))))))
+    OnieValue.date m₁ m₂ d₁ d₂ y₁ y₂ y₃ y₄ h₁ h₂ n₁ n₂ s₁ s₂ refl (also a₁ (also a₂ (also a₃ (also a₄ (also a₅ (also a₆ (also a₇ (also a₈ clock))))))))
+    (rw (four-digits y₁ y₂ y₃ y₄, two-digits m₁ m₂, two-digits d₁ d₂) at day)
+    (rw (two-digits h₁ h₂) at hour) (rw (two-digits n₁ n₂) at minute) (rw (two-digits s₁ s₂) at second))
+    v (w .0 .0) (w .0 .1) (w .1 .0 .0) (w .1 .0 .1) (w .1 .1)
+  where
+    w : Stamped v
+    w = tells-stamp v .to h
 
 tells-country : (v : List ℕ) → Tells (eqb (length v) 2 && all capital v) ((length v ≡ 2) × Each (Between 0x41 0x5A) v)
 tells-country v = tells-both (tells-eq (length v) 2) (tells-all (tells-between 0x41 0x5A) v)
@@ -331,7 +366,7 @@ onie-kept v (sinceThree le onie21) h = OnieValue.text (inl (omega arith, omega a
 onie-kept v (sinceThree le onie22) h = OnieValue.text (inl (omega arith, omega arith)) (printables v .to h)
 onie-kept v (sinceThree le onie23) h = OnieValue.text (inl (omega arith, omega arith)) (printables v .to h)
 onie-kept v (sinceThree le onie24) h = OnieValue.address refl (tells-eq (length v) 6 .to h)
-onie-kept v (sinceThree le onie25) h = date-formed v h
+onie-kept v (sinceThree le onie25) h = stamp-kept v h
 onie-kept v (sinceThree le onie2A) h = OnieValue.number refl (tells-eq (length v) 2 .to h)
 onie-kept v (sinceThree le onie2B) h = OnieValue.text (inr (inl refl)) (printables v .to h)
 onie-kept v (sinceThree le onie2C) h = let w = tells-country v .to h in country-kept v (w .0) (w .1)
@@ -345,10 +380,11 @@ onie-passes {v} (OnieValue.text (inl w) ts) = let t = printables v .from ts in w
 onie-passes {v} (OnieValue.text (inr (inl is)) ts) = rw is (printables v .from ts)
 onie-passes {v} (OnieValue.text (inr (inr is)) ts) = rw is (printables v .from ts)
 onie-passes {v} (OnieValue.address is n) = rw is (tells-eq (length v) 6 .from n)
-onie-passes (OnieValue.date m₁ m₂ d₁ d₂ y₁ y₂ y₃ y₄ h₁ h₂ n₁ n₂ s₁ s₂ is
-    (also a₁ (also a₂ (also a₃ (also a₄ (also a₅ (also a₆ (also a₇ (also a₈ (also a₉ (also b₁ (also b₂ (also b₃ (also b₄ (also b₅ none))))))))))))))) =
+onie-passes {v} (OnieValue.date m₁ m₂ d₁ d₂ y₁ y₂ y₃ y₄ h₁ h₂ n₁ n₂ s₁ s₂ is
+    (also a₁ (also a₂ (also a₃ (also a₄ (also a₅ (also a₆ (also a₇ (also a₈ (also a₉ (also b₁ (also b₂ (also b₃ (also b₄ (also b₅ none))))))))))))))
+    day hour minute second) =
+    let form : formed dateForm v ≡ true =
     rw (
-      is,
       digit-passes m₁ a₁,
       digit-passes m₂ a₂,
       digit-passes d₁ a₃,
@@ -363,7 +399,12 @@ onie-passes (OnieValue.date m₁ m₂ d₁ d₂ y₁ y₂ y₃ y₄ h₁ h₂ n�
       digit-passes n₂ b₃,
       digit-passes s₁ b₄,
       digit-passes s₂ b₅,
-    )
+    ) in
+    rw is
+    (tells-stamp v .from (
+      (form, rw (four-digits y₁ y₂ y₃ y₄, two-digits m₁ m₂, two-digits d₁ d₂) day),
+      ((rw (two-digits h₁ h₂) hour, rw (two-digits n₁ n₂) minute), rw (two-digits s₁ s₂) second),
+    ))
 onie-passes {v} (OnieValue.number is n) = rw is (tells-eq (length v) 2 .from n)
 onie-passes {v} (OnieValue.country a b is p q) = rw is (tells-country v .from (refl, also p (also q none)))
 onie-passes {v} (OnieValue.vendor is n) = rw is (tells-le 4 (length v) .from n)

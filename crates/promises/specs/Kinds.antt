@@ -9,15 +9,18 @@ use Rattle.layout.specs.declared.Format.{Format}
 use Rattle.layout.specs.declared.Format.the-variants.{Fboss, Vpd, Tiny, Onie}
 use Rattle.layout.specs.declared.Entry.{Entry}
 use Rattle.layout.specs.declared.Identity.{Identity}
+use Rattle.layout.specs.declared.Date.{Date}
+use Rattle.layout.specs.declared.Time.{Time}
 use Rattle.layout.specs.declared.Reading.{Reading}
-use Rattle.layout.specs.declared.Reading.the-variants.{Plain, Text, Number, Addresses, Numbered, Tests, Identified, Batched}
+use Rattle.layout.specs.declared.Reading.the-variants.{Plain, Text, Number, Addresses, Numbered, Tests, Identified, Batched, Dated, Timed}
 use Rattle.layout.specs.Bytes.{stringNumber}
 use Rattle.laws.specs.Contents.{said}
 use Rattle.laws.specs.Grammar.{Each}
 use Rattle.promises.specs.Words.{Serves, Counts, Lists, tellsCheck}
 use Rattle.promises.specs.Names.{Named}
+use Rattle.promises.specs.Rules.{Digit}
 
--- ---- readings, by 01's lines and document 02's third item
+-- ---- readings, by 01's lines and document 02's third and fifth items
 
 -- six bytes of an address, high byte first
 abbrev pub base : ℕ → ℕ → ℕ → ℕ → ℕ → ℕ → ℕ
@@ -28,9 +31,19 @@ abbrev pub identified : ℕ → ℕ → ℕ → ℕ → ℕ → ℕ → Identity
 identified s p major minor x y =
     record { serial = stringNumber s; part = stringNumber p; major = major; minor = minor; free0 = x; free1 = y }
 
--- FBOSS 8, 9, 10 are a number, 17 to 20 an address block; all others that are named are text
+-- year, month and day; hour, minute and second
+abbrev pub dated : ℕ → ℕ → ℕ → Date
+dated y m d = record { year = y; month = m; day = d }
+
+abbrev pub timed : ℕ → ℕ → ℕ → Time
+timed h n s = record { hour = h; minute = n; second = s }
+
+-- FBOSS 8, 9, 10 are a number, 13 a date (YYYYMMDD), 17 to 20 an address block; all others that are named are text
 pub data FbossMeans (code : ℕ) : List ℕ → Reading → Type 0 where
-  text : {v : List ℕ} → (code ≤ 7) ⊎ ((11 ≤ code) × (code ≤ 16)) → FbossMeans code v Text
+  text : {v : List ℕ} → (code ≤ 7) ⊎ (((11 ≤ code) × (code ≤ 12)) ⊎ ((14 ≤ code) × (code ≤ 16))) → FbossMeans code v Text
+  date : (a b c d m n x y : ℕ) → code ≡ 13 → Each Digit (a ∷ b ∷ c ∷ d ∷ m ∷ n ∷ x ∷ y ∷ []) →
+      FbossMeans code ((0x30 + a) ∷ (0x30 + b) ∷ (0x30 + c) ∷ (0x30 + d) ∷ (0x30 + m) ∷ (0x30 + n) ∷ (0x30 + x) ∷ (0x30 + y) ∷ [])
+      (Dated (dated (a * 1000 + b * 100 + c * 10 + d) (m * 10 + n) (x * 10 + y)))
   number : (b : ℕ) → 8 ≤ code → code ≤ 10 → FbossMeans code (b ∷ []) (Number b)
   addresses : (a b c d e f g h : ℕ) → 17 ≤ code → code ≤ 20 →
       FbossMeans code (a ∷ b ∷ c ∷ d ∷ e ∷ f ∷ g ∷ h ∷ []) (Addresses (base a b c d e f) (g * 256 + h))
@@ -56,9 +69,15 @@ pub data TinyMeans (code : ℕ) : List ℕ → Reading → Type 0 where
   batched : (s p major minor x y low high : ℕ) → (code ≡ 0x80) ⊎ (code ≡ 0x81) →
       TinyMeans code (s ∷ p ∷ major ∷ minor ∷ x ∷ y ∷ low ∷ high ∷ []) (Batched (identified s p major minor x y) (low + high * 256))
 
--- ONIE: 24h an address block of count 1; 2Ah a number of two bytes, high byte first; FDh plain bytes; all others that are named are text
+-- ONIE: 24h an address block of count 1; 25h a date with time (MM/DD/YYYY HH:NN:SS); 2Ah a number of two bytes, high byte first; FDh plain bytes; all others that are named are text
 pub data OnieMeans (code : ℕ) : List ℕ → Reading → Type 0 where
-  text : {v : List ℕ} → ((0x21 ≤ code) × (code ≤ 0x23)) ⊎ ((code ≡ 0x25) ⊎ ((0x2B ≤ code) × (code ≤ 0x2D))) → OnieMeans code v Text
+  text : {v : List ℕ} → ((0x21 ≤ code) × (code ≤ 0x23)) ⊎ ((0x2B ≤ code) × (code ≤ 0x2D)) → OnieMeans code v Text
+  date : (m₁ m₂ d₁ d₂ y₁ y₂ y₃ y₄ h₁ h₂ n₁ n₂ s₁ s₂ : ℕ) → code ≡ 0x25 →
+      Each Digit (m₁ ∷ m₂ ∷ d₁ ∷ d₂ ∷ y₁ ∷ y₂ ∷ y₃ ∷ y₄ ∷ h₁ ∷ h₂ ∷ n₁ ∷ n₂ ∷ s₁ ∷ s₂ ∷ []) →
+      OnieMeans code
+      ((0x30 + m₁) ∷ (0x30 + m₂) ∷ 0x2F ∷ (0x30 + d₁) ∷ (0x30 + d₂) ∷ 0x2F ∷ (0x30 + y₁) ∷ (0x30 + y₂) ∷ (0x30 + y₃) ∷ (0x30 + y₄)
+      ∷ 0x20 ∷ (0x30 + h₁) ∷ (0x30 + h₂) ∷ 0x3A ∷ (0x30 + n₁) ∷ (0x30 + n₂) ∷ 0x3A ∷ (0x30 + s₁) ∷ (0x30 + s₂) ∷ [])
+      (Timed (dated (y₁ * 1000 + y₂ * 100 + y₃ * 10 + y₄) (m₁ * 10 + m₂) (d₁ * 10 + d₂)) (timed (h₁ * 10 + h₂) (n₁ * 10 + n₂) (s₁ * 10 + s₂)))
   addresses : (a b c d e f : ℕ) → code ≡ 0x24 → OnieMeans code (a ∷ b ∷ c ∷ d ∷ e ∷ f ∷ []) (Addresses (base a b c d e f) 1)
   number : (a b : ℕ) → code ≡ 0x2A → OnieMeans code (a ∷ b ∷ []) (Number (a * 256 + b))
   plain : {v : List ℕ} → code ≡ 0xFD → OnieMeans code v Plain

@@ -1,4 +1,4 @@
--- The rules of named entries (7), as document 01's lines have them ("FBOSS v5", "VPD 2.0", "Tiny version 2", "Writing, editing, walking") and document 02's first and third items, apart from the definitions' tests.
+-- The rules of named entries (7), as document 01's lines have them ("FBOSS v5", "VPD 2.0", "Tiny version 2", "Writing, editing, walking") and document 02's first, third and fifth items, apart from the definitions' tests.
 -- Assumes nothing.
 use Prim.Native.Nat.{ℕ, _+_, _*_, _/_, _≤_, _<_}
 use mathlib.Core.Path.{_≡_}
@@ -8,6 +8,7 @@ use mathlib.Core.Bool.{true}
 use lib.ListN.{length}
 use Rattle.layout.specs.declared.Format.{Format}
 use Rattle.layout.specs.declared.Format.the-variants.{Fboss, Vpd, Tiny, Onie}
+use Rattle.layout.specs.Years.{Printed}
 use Rattle.layout.specs.Editions.{shape}
 use Rattle.layout.specs.Walk.{Content}
 use Rattle.layout.specs.Read.{readerRule}
@@ -39,9 +40,9 @@ pub data FbossValue (code : ℕ) : List ℕ → Type 0 where
   text : {v : List ℕ} → TextCode code → Each Printable v → FbossValue code v
   eight : {v : List ℕ} → code ≡ 3 → length v ≡ 8 → Each Printable v → FbossValue code v
   twelve : {v : List ℕ} → Between 4 5 code → length v ≡ 12 → Each Printable v → FbossValue code v
-  -- eight digits YYYYMMDD, month 01 to 12, day 01 to 31
+  -- eight digits YYYYMMDD that show a day
   date : (a b c d m n x y : ℕ) → code ≡ 13 → a ≤ 9 → b ≤ 9 → c ≤ 9 → d ≤ 9 → m ≤ 9 → n ≤ 9 → x ≤ 9 → y ≤ 9 →
-      Between 1 12 (m * 10 + n) → Between 1 31 (x * 10 + y) →
+      Printed (a * 1000 + b * 100 + c * 10 + d) (m * 10 + n) (x * 10 + y) →
       FbossValue code ((0x30 + a) ∷ (0x30 + b) ∷ (0x30 + c) ∷ (0x30 + d) ∷ (0x30 + m) ∷ (0x30 + n) ∷ (0x30 + x) ∷ (0x30 + y) ∷ [])
   number : {v : List ℕ} → Between 8 10 code → length v ≡ 1 → FbossValue code v
   addresses : {v : List ℕ} → Between 17 20 code → length v ≡ 8 → FbossValue code v
@@ -84,9 +85,10 @@ Digit d = d ≤ 9
 pub data OnieValue (code : ℕ) : List ℕ → Type 0 where
   text : {v : List ℕ} → Between 0x21 0x23 code ⊎ ((code ≡ 0x2B) ⊎ (code ≡ 0x2D)) → Each Printable v → OnieValue code v
   address : {v : List ℕ} → code ≡ 0x24 → length v ≡ 6 → OnieValue code v
-  -- MM/DD/YYYY HH:NN:SS, any digits
+  -- MM/DD/YYYY HH:NN:SS that shows a day, an hour to 23, minute and second to 59
   date : (m₁ m₂ d₁ d₂ y₁ y₂ y₃ y₄ h₁ h₂ n₁ n₂ s₁ s₂ : ℕ) → code ≡ 0x25 →
       Each Digit (m₁ ∷ m₂ ∷ d₁ ∷ d₂ ∷ y₁ ∷ y₂ ∷ y₃ ∷ y₄ ∷ h₁ ∷ h₂ ∷ n₁ ∷ n₂ ∷ s₁ ∷ s₂ ∷ []) →
+      Printed (y₁ * 1000 + y₂ * 100 + y₃ * 10 + y₄) (m₁ * 10 + m₂) (d₁ * 10 + d₂) → h₁ * 10 + h₂ ≤ 23 → n₁ * 10 + n₂ ≤ 59 → s₁ * 10 + s₂ ≤ 59 →
       OnieValue code
       ((0x30 + m₁) ∷ (0x30 + m₂) ∷ 0x2F ∷ (0x30 + d₁) ∷ (0x30 + d₂) ∷ 0x2F ∷ (0x30 + y₁) ∷ (0x30 + y₂) ∷ (0x30 + y₃) ∷ (0x30 + y₄)
       ∷ 0x20 ∷ (0x30 + h₁) ∷ (0x30 + h₂) ∷ 0x3A ∷ (0x30 + n₁) ∷ (0x30 + n₂) ∷ 0x3A ∷ (0x30 + s₁) ∷ (0x30 + s₂) ∷ [])
