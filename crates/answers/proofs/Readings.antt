@@ -10,7 +10,8 @@ use Rattle.layout.specs.declared.Format.the-variants.{Fboss, Vpd, Tiny, Onie}
 use Rattle.layout.specs.declared.Reading.{Reading}
 use Rattle.layout.specs.declared.Reading.the-variants.{Addresses}
 use Rattle.layout.specs.Bytes.{between, part, highFirst}
-use Rattle.layout.specs.Fboss.{fboss, twoDigits, fourDigits, fbossReading}
+use Rattle.layout.specs.Calendar.{twoDigits, fourDigits}
+use Rattle.layout.specs.Fboss.{fboss, fbossReading}
 use Rattle.layout.specs.Vpd.{vpd}
 use Rattle.layout.specs.Tiny.{tiny, tinyReading, batch, passed}
 use Rattle.layout.specs.Onie.{onie, onieReading}

@@ -5,7 +5,7 @@ use mathlib.Core.Path.{_≡_}
 use mathlib.Core.List.{List}
 use native.Mathlib.Omega.{arith}
 use lib.ListN.{length, List·getD-eq-default}
-use Rattle.layout.specs.Fboss.{twoDigits}
+use Rattle.layout.specs.Calendar.{twoDigits}
 
 pub no-digits : (v : List ℕ) (i : ℕ) → length v ≤ i → twoDigits i v ≡ 0
 no-digits v i le = rw (List·getD-eq-default v 0 {n = i} le, List·getD-eq-default v 0 {n = i + 1} (omega arith))

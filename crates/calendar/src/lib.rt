@@ -1,8 +1,7 @@
 // Days of the Gregorian calendar, times of a day, and the numbers that digits of a value show.
 ghost use mathlib.Core.Path.{_≡_};
 ghost use Prim.Native.Nat.{_+_, _*_, _-_, _≤_};
-ghost use Rattle.layout.specs.Calendar.{leap, lastDay, isDay, isTime};
-ghost use Rattle.layout.specs.Fboss.{twoDigits, fourDigits};
+ghost use Rattle.layout.specs.Calendar.{leap, lastDay, isDay, isTime, twoDigits, fourDigits};
 use layout::Date;
 use layout::Time;
 

@@ -1,17 +1,16 @@
 -- The definition of a day gives the printed calendar: computed for the 4,800 months of the years 1 to 400, which come again.
 -- Assumes nothing.
-use Prim.Native.Nat.{ℕ, zero, suc, _+_, _-_, _%_, _≤_, _<_}
+use Prim.Native.Nat.{ℕ, zero, suc, _+_, _*_, _-_, _%_, _≤_, _<_}
 use mathlib.Core.Path.{_≡_, refl}
-use mathlib.Core.List.{[], _∷_}
 use mathlib.Core.Logic.{⊎-elim}
 use mathlib.Core.Bool.{Bool, true, false, _&&_}
 use native.Mathlib.Nat.{eq-or-lt-of-le}
 use native.Mathlib.Omega.{arith}
 use lib.Dec.{leb, eqb}
-use borrow.Author.Tests.{leb-true, le-leb, eqb-true}
+use borrow.Author.Tests.{leb-true, le-leb, eqb-true, ne-eqb}
 use Rattle.layout.specs.Bytes.{between, oneOf}
 use Rattle.layout.specs.Calendar.{leap, lastDay, isDay, date}
-use Rattle.layout.specs.Years.{cycle, printed, Printed, daysOf, daysTo, Calendar}
+use Rattle.layout.specs.Years.{cycle, lastPrinted, Printed, daysOf, daysTo, AsPrinted}
 use Rattle.laws.proofs.Choices.{both}
 
 -- ---- tests
@@ -31,7 +30,7 @@ every-one (suc n) t q k lt =
 
 -- month m + 1 of year y + 1
 abbrev same : ℕ → ℕ → Bool
-same y m = eqb (lastDay (leap (y + 1)) (m + 1)) (printed (y + 1) (m + 1))
+same y m = eqb (lastDay (leap (y + 1)) (m + 1)) (lastPrinted (y + 1) (m + 1))
 
 computed : every 400 (λ y. every 12 (same y)) ≡ true
 unfolding lastDay oneOf cycle
@@ -50,7 +49,7 @@ again-by-cycle z = omega arith
 leap-again : (z : ℕ) → leap (z + 1) ≡ leap (z % 400 + 1)
 leap-again z = rw (again-by-four z, again-by-hundred z, again-by-cycle z)
 
-month-printed : (y m : ℕ) → 1 ≤ y → 1 ≤ m → m ≤ 12 → lastDay (leap y) m ≡ printed y m
+month-printed : (y m : ℕ) → 1 ≤ y → 1 ≤ m → m ≤ 12 → lastDay (leap y) m ≡ lastPrinted y m
 month-printed y m y1 m1 m12 =
     let k = (y - 1) % 400 in
     let year = every-one 400 (λ y. every 12 (same y)) computed k (omega arith) in
@@ -59,7 +58,7 @@ month-printed y m y1 m1 m12 =
     let this-month : m - 1 + 1 ≡ m = omega arith in
     let same-year : leap (k + 1) ≡ leap y = rw (← leap-again (y - 1), this-year) in
     let same-place : (k + 1 - 1) % 400 ≡ (y - 1) % 400 = omega arith in
-    rw (this-month, same-year, same-place) at (eqb-true (lastDay (leap (k + 1)) (m - 1 + 1)) (printed (k + 1) (m - 1 + 1)) month)
+    rw (this-month, same-year, same-place) at (eqb-true (lastDay (leap (k + 1)) (m - 1 + 1)) (lastPrinted (k + 1) (m - 1 + 1)) month)
 
 taken : (y m d : ℕ) → isDay (date y m d) ≡ true → Printed y m d
 unfolding isDay
@@ -78,7 +77,7 @@ known : (y m d : ℕ) → Printed y m d → isDay (date y m d) ≡ true
 unfolding isDay
 known y m d (y1, y9999, m1, m12, d1, dn) =
     let is = month-printed y m y1 m1 m12 in
-    rw (le-leb 1 y y1, le-leb y 9999 y9999, le-leb 1 m m1, le-leb m 12 m12, le-leb 1 d d1, is, le-leb d (printed y m) dn)
+    rw (le-leb 1 y y1, le-leb y 9999 y9999, le-leb 1 m m1, le-leb m 12 m12, le-leb 1 d d1, is, le-leb d (lastPrinted y m) dn)
 
 -- ---- the days of years
 
@@ -90,9 +89,49 @@ leap-year : (y : ℕ) → 1 ≤ y → y ≤ 9999 → leap y ≡ true → daysOf 
 unfolding daysOf isDay lastDay oneOf
 leap-year y y1 y9999 q = rw (le-leb 1 y y1, le-leb y 9999 y9999, q)
 
-four-hundred : daysTo 400 ≡ 146097
-unfolding daysTo daysOf isDay lastDay oneOf
-four-hundred = refl
+between-years : (k r : ℕ) → 1 ≤ r → r ≤ 3 → k * 4 + r ≤ 9999 → daysOf (k * 4 + r) ≡ 365
+between-years k r r1 r3 y9999 = common-year (k * 4 + r) (omega arith) y9999 (rw (ne-eqb ((k * 4 + r) % 4) 0 (λ q. omega (arith, q))))
 
-pub calendar : Calendar
-calendar = record { taken = taken; known = known; commonYear = common-year; leapYear = leap-year; fourHundred = four-hundred }
+fourth-in-hundred : (k : ℕ) → k * 4 % 100 ≡ k % 25 * 4
+fourth-in-hundred k = omega arith
+
+hundredth-in-cycle : (k : ℕ) → k * 100 % 400 ≡ k % 4 * 100
+hundredth-in-cycle k = omega arith
+
+fourth-year : (k : ℕ) → k * 4 ≤ 9999 → (k % 25 ≡ 0 → ⊥) → daysOf (k * 4) ≡ 366
+fourth-year k y9999 none =
+    let by-four : k * 4 % 4 ≡ 0 = omega arith in
+    let by-hundred : k * 4 % 100 ≡ 0 → ⊥ = λ q. none (omega (arith, q, fourth-in-hundred k)) in
+    let k1 : k ≡ 0 → ⊥ = λ q. none (rw q) in
+    leap-year (k * 4) (omega (arith, k1)) y9999 (rw (by-four, ne-eqb (k * 4 % 100) 0 by-hundred))
+
+hundredth-year : (k : ℕ) → k * 100 ≤ 9999 → (k % 4 ≡ 0 → ⊥) → daysOf (k * 100) ≡ 365
+hundredth-year k y9999 none =
+    let by-hundred : k * 100 % 100 ≡ 0 = omega arith in
+    let by-cycle : k * 100 % 400 ≡ 0 → ⊥ = λ q. none (omega (arith, q, hundredth-in-cycle k)) in
+    let by-four : k * 100 % 4 ≡ 0 = omega arith in
+    let k1 : k ≡ 0 → ⊥ = λ q. none (rw q) in
+    common-year (k * 100) (omega (arith, k1)) y9999 (rw (by-four, by-hundred, ne-eqb (k * 100 % 400) 0 by-cycle))
+
+four-hundredth-year : (k : ℕ) → 1 ≤ k → k * 400 ≤ 9999 → daysOf (k * 400) ≡ 366
+four-hundredth-year k k1 y9999 =
+    let by-four : k * 400 % 4 ≡ 0 = omega arith in
+    let by-hundred : k * 400 % 100 ≡ 0 = omega arith in
+    let by-cycle : k * 400 % 400 ≡ 0 = omega arith in
+    leap-year (k * 400) (omega arith) y9999 (rw (by-four, by-hundred, by-cycle))
+
+four-hundred-years : daysTo 400 ≡ 146097
+unfolding daysTo daysOf isDay lastDay oneOf
+four-hundred-years = refl
+
+pub as-printed : AsPrinted
+as-printed =
+    record {
+      taken = taken;
+      known = known;
+      between = between-years;
+      fourth = fourth-year;
+      hundredth = hundredth-year;
+      fourHundredth = four-hundredth-year;
+      cycle = four-hundred-years;
+    }

@@ -1,4 +1,4 @@
--- Worked cases of FBOSS images, as one statement over a list (01, "FBOSS v5 (000)").
+-- Worked cases of FBOSS images, as one statement over a list (01, "FBOSS v5 (000)"; 02, "Real calendar days").
 -- Assumes nothing.
 use Prim.Native.Nat.{ℕ}
 use mathlib.Core.Path.{_≡_, refl}

@@ -1,4 +1,4 @@
--- Worked cases of the calls on ONIE images: editions, records, writes and edits, as one statement over a list (02, "ONIE images and edition 3").
+-- Worked cases of the calls on ONIE images: editions, records, writes and edits, as one statement over a list (02, "ONIE images and edition 3", "Real calendar days").
 -- Assumes nothing.
 use Prim.Native.Nat.{ℕ}
 use mathlib.Core.Path.{_≡_, refl}

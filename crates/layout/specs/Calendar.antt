@@ -1,8 +1,9 @@
--- Days of the Gregorian calendar, back to year 1, and times of a day (02, "Real calendar days").
+-- Days of the Gregorian calendar, back to year 1, times of a day, and the numbers that digits show (02, "Real calendar days").
 -- Assumes nothing.
-use Prim.Native.Nat.{ℕ, _%_}
-use mathlib.Core.List.{[], _∷_}
+use Prim.Native.Nat.{ℕ, _+_, _*_, _-_, _%_}
+use mathlib.Core.List.{List, [], _∷_}
 use mathlib.Core.Bool.{Bool, not, _&&_, _||_}
+use lib.ListN.{getD}
 use lib.Dec.{leb, eqb}
 use Rattle.layout.specs.declared.Date.{Date}
 use Rattle.layout.specs.declared.Time.{Time}
@@ -26,6 +27,13 @@ isDay d = between 1 9999 (d .year) && between 1 12 (d .month) && between 1 (last
 -- a time of a day, to the second
 unfoldable pub isTime : Time → Bool
 isTime t = leb (t .hour) 23 && leb (t .minute) 59 && leb (t .second) 59
+
+-- the number that two digits of a value show, from place i on, and four
+abbrev pub twoDigits : ℕ → List ℕ → ℕ
+twoDigits i v = (getD v i 0 - 0x30) * 10 + (getD v (i + 1) 0 - 0x30)
+
+abbrev pub fourDigits : ℕ → List ℕ → ℕ
+fourDigits i v = twoDigits i v * 100 + twoDigits (i + 2) v
 
 abbrev pub date : ℕ → ℕ → ℕ → Date
 date y m d = record { year = y; month = m; day = d }

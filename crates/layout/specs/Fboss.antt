@@ -12,7 +12,7 @@ use Rattle.layout.specs.declared.Reading.{Reading}
 use Rattle.layout.specs.declared.Reading.the-variants.{Text, Number, Addresses, Dated}
 use Rattle.layout.specs.declared.Date.{Date}
 use Rattle.layout.specs.Bytes.{if, between, all, oneOf, highFirst, refusal, part}
-use Rattle.layout.specs.Calendar.{isDay, date}
+use Rattle.layout.specs.Calendar.{isDay, twoDigits, fourDigits, date}
 use Rattle.layout.specs.Shape.{Shape, naming, fine, Coded, coded}
 
 -- FB FB 05 FF; the entries have room to the image's end
@@ -31,14 +31,6 @@ printable b = between 0x20 0x7E b
 
 abbrev pub digit : ℕ → Bool
 digit b = between 0x30 0x39 b
-
--- the number that two digits at place i show
-abbrev pub twoDigits : ℕ → List ℕ → ℕ
-twoDigits i v = (getD v i 0 - 0x30) * 10 + (getD v (i + 1) 0 - 0x30)
-
--- and four digits
-abbrev pub fourDigits : ℕ → List ℕ → ℕ
-fourDigits i v = twoDigits i v * 100 + twoDigits (i + 2) v
 
 -- what eight digits YYYYMMDD show
 abbrev pub fbossDate : List ℕ → Date

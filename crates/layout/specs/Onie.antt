@@ -13,9 +13,9 @@ use Rattle.layout.specs.declared.Reading.the-variants.{Plain, Text, Numb
 use Rattle.layout.specs.declared.Date.{Date}
 use Rattle.layout.specs.declared.Time.{Time}
 use Rattle.layout.specs.Bytes.{if, between, all, oneOf, sameBytes, part, highFirst, refusal}
-use Rattle.layout.specs.Calendar.{isDay, isTime, date, time}
+use Rattle.layout.specs.Calendar.{isDay, isTime, twoDigits, fourDigits, date, time}
 use Rattle.layout.specs.Shape.{Shape, naming, fine, faulty, Judged, Coded, coded}
-use Rattle.layout.specs.Fboss.{printable, digit, twoDigits, fourDigits}
+use Rattle.layout.specs.Fboss.{printable, digit}
 
 -- the eight bytes TlvInfo and a zero, which every header begins with
 abbrev pub tlvInfo : List ℕ

@@ -7,7 +7,7 @@ ghost use lib.Dec.{eqb};
 ghost use lib.ListN.{length, getD};
 ghost use Rattle.layout.specs.Bytes.{if, all, oneOf, sameBytes, part};
 ghost use Rattle.layout.specs.Shape.{fine, faulty};
-ghost use Rattle.layout.specs.Onie.{onie, tlvInfo, declared, onieOpened, onieFilled, fitsForm, formed, dateForm, onieDate, onieTime, onieDateRule, capital, onieRule, onieReading};
+ghost use Rattle.layout.specs.Onie.{onie, tlvInfo, declared, onieOpened, onieFilled, fitsForm, formed, onieDate, onieTime, onieDateRule, capital, onieRule, onieReading};
 ghost use Rattle.layout.specs.Read.{sealed};
 use layout::Date;
 use layout::Opened;

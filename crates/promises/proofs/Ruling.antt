@@ -13,9 +13,9 @@ use borrow.Author.Tests.{ltb-true, ltb-false, lt-ltb, le-ltb, leb-true, le-leb, 
 use Rattle.layout.specs.declared.Format.{Format}
 use Rattle.layout.specs.declared.Format.the-variants.{Fboss, Vpd, Tiny, Onie}
 use Rattle.layout.specs.Bytes.{if, between, all, oneOf}
-use Rattle.layout.specs.Calendar.{isDay, isTime, date}
+use Rattle.layout.specs.Calendar.{isDay, isTime, twoDigits, fourDigits, date}
 use Rattle.layout.specs.Years.{Printed}
-use Rattle.layout.specs.Fboss.{fboss, fbossRule, dateRule, digit, twoDigits, fourDigits, printable}
+use Rattle.layout.specs.Fboss.{fboss, fbossRule, dateRule, digit, printable}
 use Rattle.layout.specs.Vpd.{vpd, vpdReaderKey, vpdRule, keyByte}
 use Rattle.layout.specs.Tiny.{tiny, tinyRule, tinyTakes, revisionRule, batch}
 use Rattle.layout.specs.Onie.{fitsForm, onie, onieRule, formed, dateForm, onieDateRule, capital}
@@ -27,7 +27,7 @@ use Rattle.layout.specs.Edit.{editRule}
 use Rattle.laws.specs.Grammar.{grammar, EntryOf, Each, none, also, TinySays}
 use Rattle.laws.proofs.Choices.{false-true, either, both}
 use Rattle.laws.proofs.Vpd.{writer-key}
-use Rattle.laws.proofs.Years.{calendar}
+use Rattle.laws.proofs.Years.{as-printed}
 use Rattle.promises.specs.Names.{One, Two, Named, sinceOne, sinceTwo, sinceThree, vpd01, tiny01, tiny10, tiny11, tiny60, tiny61, tiny62, vpdFE, tiny80, tiny81, onie21, onie22, onie23, onie24, onie25, onie2A, onie2B, onie2C, onie2D, onieFD}
 use Rattle.promises.specs.Rules.{Exactly, Between, Printable, TextCode, KeyByte, FbossValue, VpdKey, VpdValue, Revision, TinyValue, OnieValue, KeyRule, AlphabetRule, ValueRule, LengthRule, Rules}
 use Rattle.promises.proofs.Naming.{FromTo, each-between}
@@ -151,7 +151,7 @@ pub four-digits : (a b c d : ℕ) → ((0x30 + a - 0x30) * 10 + (0x30 + b - 0x30
 four-digits a b c d = rw (two-digits a b, two-digits c d) (omega arith)
 
 tells-day : (y m d : ℕ) → Tells (isDay (date y m d)) (Printed y m d)
-tells-day y m d = record { to = calendar .taken y m d; from = calendar .known y m d }
+tells-day y m d = record { to = as-printed .taken y m d; from = as-printed .known y m d }
 
 -- what the test of a date tests
 abbrev Dated : List ℕ → Type 0
@@ -219,8 +219,8 @@ fboss-passes {v} (FbossValue.text (inr (inr (inr w))) ts) = let t = printables v
 fboss-passes {v} (FbossValue.eight is n ts) = rw is (tells-long 8 v .from (n, ts))
 fboss-passes {v} (FbossValue.twelve w n ts) = let t = tells-long 12 v .from (n, ts) in within (Passes v) 1 4 (t, t) w
 fboss-passes (FbossValue.date a b c d m n x y is a9 b9 c9 d9 m9 n9 x9 y9 day) =
-    let calendar = also (digit-byte m m9) (also (digit-byte n n9) (also (digit-byte x x9) (also (digit-byte y y9) none))) in
-    let all = also (digit-byte a a9) (also (digit-byte b b9) (also (digit-byte c c9) (also (digit-byte d d9) calendar))) in
+    let later = also (digit-byte m m9) (also (digit-byte n n9) (also (digit-byte x x9) (also (digit-byte y y9) none))) in
+    let all = also (digit-byte a a9) (also (digit-byte b b9) (also (digit-byte c c9) (also (digit-byte d d9) later))) in
     rw is (tells-date _ .from ((refl, all), rw (four-digits a b c d, two-digits m n, two-digits x y) day))
 fboss-passes {v} (FbossValue.number w n) = let t = tells-eq (length v) 1 .from n in within (Passes v) 2 8 (t, (t, t)) w
 fboss-passes {v} (FbossValue.addresses w n) = let t = tells-eq (length v) 8 .from n in within (Passes v) 3 17 (t, (t, (t, t))) w
