@@ -1,6 +1,6 @@
 -- FBOSS v5 (01, "FBOSS v5 (000)"; 02, "Real calendar days").
 -- Assumes nothing.
-use Prim.Native.Nat.{ℕ, _+_, _*_, _-_, _/_, _%_}
+use Prim.Native.Nat.{ℕ, _/_, _%_}
 use mathlib.Core.List.{List, [], _∷_}
 use mathlib.Core.Bool.{Bool, true, _&&_}
 use lib.ListN.{length, getD}
