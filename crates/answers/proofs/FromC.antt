@@ -27,11 +27,12 @@ use Rattle.layout.specs.Calls.{Told, toldRefusal, toldChecked, toldLookup, told
 use Rattle.layout.specs.Write.{word, fieldAt, items, itemsIn, fieldsIn, writeImage, toldMade}
 use Rattle.layout.specs.Edit.{editEntry}
 use Rattle.records.specs.Packed.{packed}
-use Rattle.records.specs.Words.{wordsBytes, readingWords, recordWords}
+use Rattle.records.specs.Words.{wordsBytes, readingWords, formerWords, recordWords}
 use Rattle.records.specs.Exports.{recorded, entryCall, listCall, walkFormat, walkEdition, walkEntry, stepCall, checkCall, writeCall, editCall}
 use Rattle.records.proofs.Words.{length-words}
 use Rattle.fields.proofs.Lists.{items-none, items-more}
 use Rattle.laws.specs.Contents.{said, replaced}
+use Rattle.laws.proofs.Lists.{length-map}
 use Rattle.laws.specs.Grammar.{Each, none, also as andAlso}
 use Rattle.promises.specs.Words.{Serves, Counts, Item, here, there, tellsCheck, tellsWrite, tellsEdit}
 use Rattle.promises.specs.Kinds.{Marked}
@@ -57,7 +58,8 @@ use Rattle.answers.proofs.Lent.{packed-taken, list-lent, stepped-record
 use Rattle.answers.proofs.Packing.{whole-told}
 use Rattle.answers.proofs.Whole.{whole-reads}
 use Rattle.answers.proofs.Readings.{each-take}
-use Rattle.answers.proofs.ReadBack.{blank, each-item, item-some, length-map, record-words, record-said, reads-back}
+use Rattle.answers.proofs.ReadBack.{blank, each-item, item-some, word-kept, word-framed, record-words, record-said, reads-back}
+use Rattle.answers.proofs.FramesBack.{check-counted, frames-from-c}
 
 -- ---- numbers
 
@@ -93,14 +95,14 @@ one-more x numbers answer h = go (eqb (numberOf answer) 0) (eqb (numberOf answer
     go false false h = h
 
 -- 12, or what the entry tells
-recorded-one : (x : Lookup) (m : List ℕ) → OneOf (13 ∷ imageNumbers) (packed (toldLookup x)) → OneOf (12 ∷ 13 ∷ imageNumbers) (recorded x m .answer)
+recorded-one : (e : ℕ) (x : Lookup) (m : List ℕ) → OneOf (13 ∷ imageNumbers) (packed (toldLookup x)) → OneOf (12 ∷ 13 ∷ imageNumbers) (recorded e x m .answer)
 unfolding oneOf packed
-recorded-one (Missing r) m h = one-more 12 (13 ∷ imageNumbers) (packed (toldRefusal r)) h
-recorded-one (Found x) m h = go (leb 64 (length m)) refl
+recorded-one e (Missing r) m h = one-more 12 (13 ∷ imageNumbers) (packed (toldRefusal r)) h
+recorded-one e (Found x) m h = go (leb 64 (length m)) refl
   where
-    go : (b : Bool) → leb 64 (length m) ≡ b → OneOf (12 ∷ 13 ∷ imageNumbers) (recorded (Found x) m .answer)
-    go true e = rw e (one-more 12 (13 ∷ imageNumbers) (packed (toldLookup (Found x))) h)
-    go false e = rw e
+    go : (b : Bool) → leb 64 (length m) ≡ b → OneOf (12 ∷ 13 ∷ imageNumbers) (recorded e (Found x) m .answer)
+    go true q = rw q (one-more 12 (13 ∷ imageNumbers) (packed (toldLookup (Found x))) h)
+    go false q = rw q
 
 pub numbers-from-c : NumbersFromC
 unfolding all entryCall stepCall stepFrom
@@ -110,13 +112,13 @@ numbers-from-c =
       listed = λ f e img m.
           let records : List Entry = replicate (length m / 64) blank in
           rw (list-lent f e img m .answers records (length-replicate (length m / 64) blank)) (gives-one (12 ∷ imageNumbers) _ refl (call-numbers .listed f e img records));
-      entry = λ f e img n m. recorded-one (entryAt f e img n) m (gives-one (13 ∷ imageNumbers) _ refl (call-numbers .entry f e img n));
+      entry = λ f e img n m. recorded-one e (entryAt f e img n) m (gives-one (13 ∷ imageNumbers) _ refl (call-numbers .entry f e img n));
       value = λ f e img n. gives-one (13 ∷ imageNumbers) _ refl (call-numbers .value f e img n);
       string = λ f e img number. gives-one (15 ∷ imageNumbers) _ refl (call-numbers .string f e img number);
       stepped = λ w img m.
           let x = entryAt (walkFormat w) (walkEdition w) img (walkEntry w) in
           rw (stepped-recorded x (moved (walkEntry w) x) w m .0)
-          (recorded-one x m (gives-one (13 ∷ imageNumbers) _ refl (call-numbers .entry (walkFormat w) (walkEdition w) img (walkEntry w))));
+          (recorded-one (walkEdition w) x m (gives-one (13 ∷ imageNumbers) _ refl (call-numbers .entry (walkFormat w) (walkEdition w) img (walkEntry w))));
       written = λ f e xs values out. gives-one writeNumbers _ refl (call-numbers .written f e (fieldsIn xs) values out);
       edited = λ f e img n v out. gives-one (13 ∷ 14 ∷ 12 ∷ imageNumbers) _ refl (call-numbers .edited f e img n v out);
     }
@@ -204,29 +206,32 @@ none-at (suc n) zero = refl
 none-at (suc n) (suc k) = none-at n k
 
 -- the words of a record's reading
-reading-word : (x : Entry) (k : ℕ) → k < 8 → getD (recordWords x) (8 + k) 0 ≡ getD (toldReading (x .reading) ++ replicate 8 0) k 0
-reading-word x k lt =
+reading-word : (e : ℕ) (x : Entry) (k : ℕ) → k < 8 → getD (recordWords e x) (8 + k) 0 ≡ getD (toldReading (x .reading) ++ replicate 8 0) k 0
+reading-word e x k lt =
     let front : List ℕ = x .code ∷ x .kind ∷ x .place .0 ∷ x .key .place .0 ∷ x .key .len ∷ x .value .place .0 ∷ x .value .len ∷ 0 ∷ [] in
-    getD-append-add front (readingWords (x .reading)) k 0 ∙ getD-take 8 (toldReading (x .reading) ++ replicate 8 0) k 0 lt
+    word-kept e x (8 + k) (λ q. omega (arith, q)) ∙ getD-append-add front (readingWords (x .reading)) k 0 ∙ getD-take 8 (toldReading (x .reading) ++ replicate 8 0) k 0 lt
 
-module _ (f e : ℕ) (format : Format) (image records : List ℕ) (j : ℕ) (x : Entry) (words : (k : ℕ) → k < 16 → recordWord records j k ≡ getD (recordWords x) k 0)
+module _ (f e : ℕ) (format : Format) (image records : List ℕ) (j : ℕ) (x : Entry) (words : (k : ℕ) → k < 16 → recordWord records j k ≡ getD (recordWords e x) k 0)
     (says : recordSays image records j ≡ said image x) (m : Marked f e format image x) where
+  kept : (k : ℕ) → k < 7 → recordWord records j k ≡ getD (formerWords x) k 0
+  kept k lt = words k (omega arith) ∙ word-kept e x k (λ q. omega (arith, q))
+
   code : recordWord records j 0 ≡ x .code
-  code = words 0 (omega arith)
+  code = kept 0 (omega arith)
 
   value : part (recordWord records j 5) (recordWord records j 6) image ≡ said image x .value
   value = ap (λ (c : Content). c .value) says
 
   carried : (k : ℕ) → k < 8 → recordWord records j (8 + k) ≡ getD (toldReading (x .reading) ++ replicate 8 0) k 0
-  carried k lt = words (8 + k) (omega arith) ∙ reading-word x k lt
+  carried k lt = words (8 + k) (omega arith) ∙ reading-word e x k lt
 
   kind-from-c : KindFromC f e format image records j
   unfolding toldReading
   kind-from-c =
       record {
-        kind = λ y. words 1 (omega arith) ∙ m .named (rw code at y) .0 ∙ ap (λ (c : ℕ). f * 256 + c) (sym code);
+        kind = λ y. kept 1 (omega arith) ∙ m .named (rw code at y) .0 ∙ ap (λ (c : ℕ). f * 256 + c) (sym code);
         reading = λ y. (x .reading, rw (code, value) (m .named (rw code at y) .1), carried);
-        kindless = λ y. words 1 (omega arith) ∙ m .unnamed (rw code at y) .0;
+        kindless = λ y. kept 1 (omega arith) ∙ m .unnamed (rw code at y) .0;
         unread = λ y k lt. carried k lt ∙ ap (λ (r : Reading). getD (toldReading r ++ replicate 8 0) k 0) (m .unnamed (rw code at y) .1) ∙ none-at 9 k;
       }
 
@@ -250,6 +255,7 @@ module _ (f e : ℕ) (image : List ℕ) (bs : Bytes image) (n : ℕ) (c : Counts
             rw (← same)
             (kind-from-c f e (k .format) image (listCall f e image m .memory) j (i .0) (record-words f e image bs (k .entries) (k .listed) m room j (i .0) (i .1))
             (record-said f e image bs (k .entries) (k .listed) m room j (i .0) (i .1)) (each-item (k .marked) (i .1)));
+        frames = frames-from-c f e image bs n c;
       }
 
 written-from-c : WrittenFromC
@@ -267,12 +273,20 @@ alike-item (also {y = y} a more) here = (y, here, a)
 alike-item (also a more) (there i) = let r = alike-item more i in (r .0, there (r .1), r .2)
 
 module _ (g : Format) (o : ℕ) (image older newer : List ℕ) (j : ℕ) (x y : Entry) (a : Alike g o image x y)
-    (old : (k : ℕ) → k < 16 → recordWord older j k ≡ getD (recordWords x) k 0) (new : (k : ℕ) → k < 16 → recordWord newer j k ≡ getD (recordWords y) k 0) where
+    (old : (k : ℕ) → k < 16 → recordWord older j k ≡ getD (recordWords o x) k 0) (n : ℕ) (le : o ≤ n)
+    (new : (k : ℕ) → k < 16 → recordWord newer j k ≡ getD (recordWords n y) k 0) where
   same-code : x .code ≡ y .code
   unfolding said
   same-code = ap (λ (c : Content). c .code) (a .says)
 
-  same-places : (k : ℕ) → k < 8 → (k ≡ 1 → ⊥) → getD (recordWords x) k 0 ≡ getD (recordWords y) k 0
+  -- all words but word 7
+  old-word : (k : ℕ) → k < 16 → (k ≡ 7 → ⊥) → recordWord older j k ≡ getD (formerWords x) k 0
+  old-word k lt other = old k lt ∙ word-kept o x k other
+
+  new-word : (k : ℕ) → k < 16 → (k ≡ 7 → ⊥) → recordWord newer j k ≡ getD (formerWords y) k 0
+  new-word k lt other = new k lt ∙ word-kept n y k other
+
+  same-places : (k : ℕ) → k < 7 → (k ≡ 1 → ⊥) → getD (formerWords x) k 0 ≡ getD (formerWords y) k 0
   same-places zero lt other = same-code
   same-places (suc zero) lt other = absurd (other refl)
   same-places (suc (suc zero)) lt other = ap (λ (p : Place). p .0) (a .place)
@@ -280,36 +294,36 @@ module _ (g : Format) (o : ℕ) (image older newer : List ℕ) (j : ℕ) (x y : 
   same-places (suc (suc (suc (suc zero)))) lt other = ap (λ (p : Part). p .len) (a .key)
   same-places (suc (suc (suc (suc (suc zero))))) lt other = ap (λ (p : Part). p .place .0) (a .value)
   same-places (suc (suc (suc (suc (suc (suc zero)))))) lt other = ap (λ (p : Part). p .len) (a .value)
-  same-places (suc (suc (suc (suc (suc (suc (suc zero))))))) lt other = refl
-  same-places (suc (suc (suc (suc (suc (suc (suc (suc k)))))))) lt other = absurd (omega arith)
+  same-places (suc (suc (suc (suc (suc (suc (suc k))))))) lt other = absurd (omega arith)
 
   same-record : SameRecord g o older newer j
   unfolding toldReading
   same-record =
-      let code : recordWord older j 0 ≡ x .code = old 0 (omega arith) in
+      let code : recordWord older j 0 ≡ x .code = old-word 0 (omega arith) (λ q. omega (arith, q)) in
       record {
-        placed = λ k lt other. old k (omega arith) ∙ same-places k lt other ∙ sym (new k (omega arith));
-        named = λ n k lt.
-            let q = a .kept (rw code at n) in
+        placed = λ k lt other. old-word k (omega arith) (λ q. omega (arith, q)) ∙ same-places k lt other ∙ sym (new-word k (omega arith) (λ q. omega (arith, q)));
+        framed = λ four. old 7 (omega arith) ∙ word-framed o x four ∙ a .size ∙ sym (new 7 (omega arith) ∙ word-framed n y (omega (arith, four, le)));
+        named = λ s k lt other.
+            let q = a .kept (rw code at s) in
             let c = same-code in
             let p = a .place in
             let u = a .key in
             let v = a .value in
             let d = q .0 in
             let r = q .1 in
-            let words : recordWords x ≡ recordWords y = cc in
-            old k lt ∙ ap (λ (l : List ℕ). getD l k 0) words ∙ sym (new k lt);
-        kindless = λ n. old 1 (omega arith) ∙ a .plain (rw code at n) .0;
-        unread = λ n k ge lt.
+            let words : formerWords x ≡ formerWords y = cc in
+            old-word k lt other ∙ ap (λ (l : List ℕ). getD l k 0) words ∙ sym (new-word k lt other);
+        kindless = λ s. old-word 1 (omega arith) (λ q. omega (arith, q)) ∙ a .plain (rw code at s) .0;
+        unread = λ s k ge lt.
             let i : 8 + (k - 8) ≡ k = omega arith in
-            old k lt ∙ ap (λ (b : ℕ). getD (recordWords x) b 0) (sym i) ∙ reading-word x (k - 8) (omega arith)
-            ∙ ap (λ (r : Reading). getD (toldReading r ++ replicate 8 0) (k - 8) 0) (a .plain (rw code at n) .1) ∙ none-at 9 (k - 8);
+            old k lt ∙ ap (λ (b : ℕ). getD (recordWords o x) b 0) (sym i) ∙ reading-word o x (k - 8) (omega arith)
+            ∙ ap (λ (r : Reading). getD (toldReading r ++ replicate 8 0) (k - 8) 0) (a .plain (rw code at s) .1) ∙ none-at 9 (k - 8);
       }
 
 older-from-c : (f o n : ℕ) (g : Format) (image : List ℕ) (bs : Bytes image) (count : ℕ) → Serves f o g → o ≤ n → Counts (tellsCheck f n image) count → OlderFromC f o n image
 older-from-c f o n g image bs count serves le c =
     let r = older-reads f o n g image count serves le c in
-    let counted : countOf (checkCall f n image) ≡ count = whole-reads .checked f n image .count (ap (λ (t : Told). t .number) c) ∙ ap (λ (t : Told). t .count) c in
+    let counted = check-counted f n image count c in
     record {
       format = r .format;
       serves = r .serves;
@@ -318,7 +332,7 @@ older-from-c f o n g image bs count serves le c =
           let i = item-some (r .older) j (omega (arith, counted, r .counted .0)) in
           let y = alike-item (r .alike) (i .1) in
           same-record (r .format) o image (listCall f o image m .memory) (listCall f n image m .memory) j (i .0) (y .0) (y .2)
-          (record-words f o image bs (r .older) (r .listed .0) m (omega (arith, counted, r .counted .0)) j (i .0) (i .1))
+          (record-words f o image bs (r .older) (r .listed .0) m (omega (arith, counted, r .counted .0)) j (i .0) (i .1)) n le
           (record-words f n image bs (r .newer) (r .listed .1) m (omega (arith, counted, r .counted .1)) j (y .0) (y .1));
     }
 
@@ -340,5 +354,9 @@ from-c =
             before = reads-back f n image (r .former) bs (r .before);
             whole = reads-back f n output (replaced (r .former) i v) outBytes (r .whole);
             front = reads-back f n (take m output) (replaced (r .former) i v) (each-take m output outBytes) (r .front);
+            frames = (
+              frames-from-c f n output outBytes (length (r .whole .entries)) (r .whole .accepted),
+              frames-from-c f n (take m output) (each-take m output outBytes) (length (r .front .entries)) (r .front .accepted),
+            );
           };
     }

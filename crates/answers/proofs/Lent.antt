@@ -55,16 +55,16 @@ packed-given n x y = refl
 
 -- ---- one record
 
-module _ (x : Lookup) (m : List ℕ) where
-  recorded-kept : RefusedAnswer (recorded x m .answer) → recorded x m .memory ≡ m
+module _ (e : ℕ) (x : Lookup) (m : List ℕ) where
+  recorded-kept : RefusedAnswer (recorded e x m .answer) → recorded e x m .memory ≡ m
   recorded-kept r = go x r
     where
-      room : (y : Entry) (b : Bool) → let g = if {A = Given} b (λ _. record { answer = packed (toldLookup (Found y)); memory = recordBytes y ++ drop 64 m }) (λ _. kept (refusal 12 0) m) in
+      room : (y : Entry) (b : Bool) → let g = if {A = Given} b (λ _. record { answer = packed (toldLookup (Found y)); memory = recordBytes e y ++ drop 64 m }) (λ _. kept (refusal 12 0) m) in
           RefusedAnswer (g .answer) → g .memory ≡ m
       room y true r = absurd (r (packed-taken (toldLookup (Found y)) refl))
       room y false r = refl
 
-      go : (x : Lookup) → RefusedAnswer (recorded x m .answer) → recorded x m .memory ≡ m
+      go : (x : Lookup) → RefusedAnswer (recorded e x m .answer) → recorded e x m .memory ≡ m
       go (Found y) r = room y (leb 64 (length m)) r
       go (Missing q) r = refl
 
@@ -74,28 +74,28 @@ never-given r y q = let z : _≡_ {A = ℕ} 0 1 = ap (λ (t : Told). t .count) q
 given-same : (x y : Entry) → toldLookup (Found x) ≡ given y → x ≡ y
 given-same x y q = let z : (x ∷ []) ≡ (y ∷ []) = ap (λ (t : Told). t .given) q in cc
 
-recorded-answers : (x : Lookup) (m : List ℕ) → Answers (toldLookup x) m (recorded x m .answer)
-recorded-answers (Found y) m =
+recorded-answers : (e : ℕ) (x : Lookup) (m : List ℕ) → Answers (toldLookup x) m (recorded e x m .answer)
+recorded-answers e (Found y) m =
     record { whole = λ le. rw (le-leb 64 (length m) le); refused = λ h. absurd (h refl); short = λ x lt q. rw (lt-leb 64 (length m) lt) }
-recorded-answers (Missing r) m = record { whole = λ le. refl; refused = λ h. refl; short = λ x lt q. never-given r x q }
+recorded-answers e (Missing r) m = record { whole = λ le. refl; refused = λ h. refl; short = λ x lt q. never-given r x q }
 
 -- the record that an entry or a step leaves
-record-stands : (x : Lookup) (y : Entry) (m : List ℕ) → 64 ≤ length m → toldLookup x ≡ given y →
-    (take 64 (recorded x m .memory) ≡ recordBytes y) × (drop 64 (recorded x m .memory) ≡ drop 64 m)
-record-stands (Missing r) y m le q = never-given r y q
-record-stands (Found x) y m le q =
+record-stands : (e : ℕ) (x : Lookup) (y : Entry) (m : List ℕ) → 64 ≤ length m → toldLookup x ≡ given y →
+    (take 64 (recorded e x m .memory) ≡ recordBytes e y) × (drop 64 (recorded e x m .memory) ≡ drop 64 m)
+record-stands e (Missing r) y m le q = never-given r y q
+record-stands e (Found x) y m le q =
     rw (le-leb 64 (length m) le, ← given-same x y q)
-    (take-at (recordBytes x) (drop 64 m) 64 (length-record x), drop-at (recordBytes x) (drop 64 m) 64 (length-record x))
+    (take-at (recordBytes e x) (drop 64 m) 64 (length-record e x), drop-at (recordBytes e x) (drop 64 m) 64 (length-record e x))
 
 -- ---- the walk's step
 
 -- a step leaves answer and record as the entry call does
-pub stepped-recorded : (x : Lookup) (n : ℕ) (w m : List ℕ) → (steppedTo x n w m .answer ≡ recorded x m .answer) × (steppedTo x n w m .memory ≡ recorded x m .memory)
+pub stepped-recorded : (x : Lookup) (n : ℕ) (w m : List ℕ) → (steppedTo x n w m .answer ≡ recorded (walkEdition w) x m .answer) × (steppedTo x n w m .memory ≡ recorded (walkEdition w) x m .memory)
 stepped-recorded (Missing r) n w m = (refl, refl)
 stepped-recorded (Found x) n w m = room (leb 64 (length m)) refl
   where
     room : (b : Bool) → leb 64 (length m) ≡ b →
-        (steppedTo (Found x) n w m .answer ≡ recorded (Found x) m .answer) × (steppedTo (Found x) n w m .memory ≡ recorded (Found x) m .memory)
+        (steppedTo (Found x) n w m .answer ≡ recorded (walkEdition w) (Found x) m .answer) × (steppedTo (Found x) n w m .memory ≡ recorded (walkEdition w) (Found x) m .memory)
     room true e = (rw e, rw e)
     room false e = (rw e, rw e)
 
@@ -129,12 +129,12 @@ walk-back w n le lt =
 -- ---- the list
 
 -- record j of records, one after another
-record-at : (xs : List Entry) (t : List ℕ) (j : ℕ) (x : Entry) → Item xs j x → part (j * 64) 64 (recordsBytes xs ++ t) ≡ recordBytes x
+record-at : (e : ℕ) (xs : List Entry) (t : List ℕ) (j : ℕ) (x : Entry) → Item xs j x → part (j * 64) 64 (recordsBytes e xs ++ t) ≡ recordBytes e x
 unfolding recordsBytes part
-record-at (x ∷ xs) t zero _ here = ap (take 64) (append-assoc (recordBytes x) (recordsBytes xs) t) ∙ take-at (recordBytes x) (recordsBytes xs ++ t) 64 (length-record x)
-record-at (y ∷ xs) t (suc j) x (there i) =
-    let q : suc j * 64 ≡ length (recordBytes y) + j * 64 = omega (arith, length-record y) in
-    rw (q, append-assoc (recordBytes y) (recordsBytes xs) t, drop-append-add (recordBytes y) (recordsBytes xs ++ t) (j * 64)) (record-at xs t j x i)
+record-at e (x ∷ xs) t zero _ here = ap (take 64) (append-assoc (recordBytes e x) (recordsBytes e xs) t) ∙ take-at (recordBytes e x) (recordsBytes e xs ++ t) 64 (length-record e x)
+record-at e (y ∷ xs) t (suc j) x (there i) =
+    let q : suc j * 64 ≡ length (recordBytes e y) + j * 64 = omega (arith, length-record e y) in
+    rw (q, append-assoc (recordBytes e y) (recordsBytes e xs) t, drop-append-add (recordBytes e y) (recordsBytes e xs ++ t) (j * 64)) (record-at e xs t j x i)
 
 -- what the list call gives with room enough is the list of the image that is read
 pub record Listing (f e : ℕ) (img : List ℕ) (entries : List Entry) : Type 0 where
@@ -151,7 +151,7 @@ listed-kept : (x : Read) (e : ℕ) (m : List ℕ) → RefusedAnswer (recordedBy 
 listed-kept (refused r) e m q = refl
 listed-kept (accepted g start rs) e m q = room (leb (length (entriesOf (shape g) e start rs)) (length m / 64)) refl
   where
-    room : (b : Bool) → leb (length (entriesOf (shape g) e start rs)) (length m / 64) ≡ b → recordedAll (entriesOf (shape g) e start rs) m .memory ≡ m
+    room : (b : Bool) → leb (length (entriesOf (shape g) e start rs)) (length m / 64) ≡ b → recordedAll e (entriesOf (shape g) e start rs) m .memory ≡ m
     room true t = absurd (q (rw t (packed-taken (told (length (entriesOf (shape g) e start rs)) (partAt 0 0) (entriesOf (shape g) e start rs)) refl)))
     room false t = rw t
 
@@ -231,12 +231,12 @@ list-lent f e img m =
     record {
       answers = answers;
       stands = λ entries l fits j x i.
-          rw (memory entries (lists-read f e img entries l) fits) (record-at entries (drop (length entries * 64) m) j x i);
+          rw (memory entries (lists-read f e img entries l) fits) (record-at e entries (drop (length entries * 64) m) j x i);
       beyond = λ entries l fits.
-          rw (memory entries (lists-read f e img entries l) fits) (drop-at (recordsBytes entries) (drop (length entries * 64) m) (length entries * 64) (length-records entries));
+          rw (memory entries (lists-read f e img entries l) fits) (drop-at (recordsBytes e entries) (drop (length entries * 64) m) (length entries * 64) (length-records e entries));
     }
   where
-    memory : (entries : List Entry) → Listing f e img entries → length entries * 64 ≤ length m → listCall f e img m .memory ≡ recordsBytes entries ++ drop (length entries * 64) m
+    memory : (entries : List Entry) → Listing f e img entries → length entries * 64 ≤ length m → listCall f e img m .memory ≡ recordsBytes e entries ++ drop (length entries * 64) m
     memory entries l fits =
         let es = entriesOf (shape (l .format)) e (l .start) (l .raws) in
         let room : length es ≤ length m / 64 = rw (← l .are) (omega arith) in
@@ -250,7 +250,7 @@ list-lent f e img m =
         go (accepted g start rs) q = rw q (room (leb (length (entriesOf (shape g) e start rs)) (length m / 64)) refl)
           where
             room : (b : Bool) → leb (length (entriesOf (shape g) e start rs)) (length m / 64) ≡ b →
-                recordedAll (entriesOf (shape g) e start rs) m .answer ≡ packed (toldChecked (fill (entriesOf (shape g) e start rs) records .answer))
+                recordedAll e (entriesOf (shape g) e start rs) m .answer ≡ packed (toldChecked (fill (entriesOf (shape g) e start rs) records .answer))
             room true t = rw (long, t) (packed-given (length (entriesOf (shape g) e start rs)) (entriesOf (shape g) e start rs) [])
             room false t = rw (long, t)
 
@@ -260,24 +260,24 @@ lent =
     record {
       unchanged =
           record {
-            entry = λ f e img n m r. recorded-kept (entryAt f e img n) m r;
+            entry = λ f e img n m r. recorded-kept e (entryAt f e img n) m r;
             listed = λ f e img m r. listed-kept (readImage f e img) e m r;
             stepped = λ w img m r.
                 let x = entryAt (walkFormat w) (walkEdition w) img (walkEntry w) in
                 let n = moved (walkEntry w) x in
-                (stepped-kept x n w m r, stepped-recorded x n w m .1 ∙ recorded-kept x m (rw (stepped-recorded x n w m .0) at r));
+                (stepped-kept x n w m r, stepped-recorded x n w m .1 ∙ recorded-kept (walkEdition w) x m (rw (stepped-recorded x n w m .0) at r));
             written = λ f e fields values out r. unchanged .written f e (fieldsIn fields) values out (is-refused (tellsWrite f e (fieldsIn fields) values out) r);
             edited = λ f e img n v out r. unchanged .edited f e img n v out (is-refused (tellsEdit f e img n v out) r);
           };
       listed = list-lent;
-      entry = λ f e img n m. record { answers = recorded-answers (entryAt f e img n) m; stands = λ x le q. record-stands (entryAt f e img n) x m le q };
+      entry = λ f e img n m. record { answers = recorded-answers e (entryAt f e img n) m; stands = λ x le q. record-stands e (entryAt f e img n) x m le q };
       stepped = λ w img m.
           let x = entryAt (walkFormat w) (walkEdition w) img (walkEntry w) in
           let n = moved (walkEntry w) x in
           let s = stepped-recorded x n w m in
           record {
-            answers = rw (s .0) (recorded-answers x m);
-            stands = λ y le q. rw (s .1) (record-stands x y m le q);
+            answers = rw (s .0) (recorded-answers (walkEdition w) x m);
+            stands = λ y le q. rw (s .1) (record-stands (walkEdition w) x y m le q);
             onward = step-onward w img m x refl (leb 64 (length m)) refl;
           };
     }

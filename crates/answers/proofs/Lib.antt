@@ -4,5 +4,6 @@ pub mod Readings
 pub mod Records
 pub mod Lent
 pub mod ReadBack
+pub mod FramesBack
 pub mod FromC
 pub mod Vendor

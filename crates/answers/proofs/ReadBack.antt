@@ -5,6 +5,8 @@ use mathlib.Core.Path.{_≡_, refl, ap, sym, _∙_}
 use mathlib.Core.List.{List, [], _∷_, map}
 use native.Mathlib.Omega.{arith}
 use lib.ListN.{length, getD, replicate, length-replicate}
+use lib.Dec.{leb}
+use borrow.Author.Tests.{le-leb, lt-leb}
 use Rattle.layout.specs.declared.Entry.{Entry}
 use Rattle.layout.specs.declared.Reading.the-variants.{Plain}
 use Rattle.layout.specs.Bytes.{part, place, partAt}
@@ -14,9 +16,11 @@ use Rattle.layout.specs.Calls.{Told, entriesIn}
 use Rattle.layout.specs.Write.{word}
 use Rattle.laws.specs.Contents.{said}
 use Rattle.laws.specs.Grammar.{Each, also}
+use Rattle.laws.proofs.Choices.{either}
+use Rattle.laws.proofs.Lists.{length-map}
 use Rattle.laws.proofs.Passes.{part-byte}
 use Rattle.records.specs.Packed.{packed}
-use Rattle.records.specs.Words.{recordWords}
+use Rattle.records.specs.Words.{formerWords, framedWords, recordWords}
 use Rattle.records.specs.Exports.{checkCall, listCall}
 use Rattle.promises.specs.Words.{Counts, Item, here, there, Lists, Reads, tellsCheck}
 use Rattle.answers.specs.Records.{WholeRecord}
@@ -41,10 +45,6 @@ item-some [] j lt = absurd (omega arith)
 item-some (x ∷ xs) zero lt = (x, here)
 item-some (x ∷ xs) (suc j) lt = let r = item-some xs j (omega arith) in (r .0, there (r .1))
 
-pub length-map : {A B : Type 0} (f : A → B) (xs : List A) → length (map f xs) ≡ length xs
-length-map f [] = refl
-length-map f (x ∷ xs) = ap suc (length-map f xs)
-
 -- ---- the words of a record
 
 -- a word of 64 bytes that stand inside others
@@ -54,12 +54,34 @@ word-within m j k lt = omega (arith, part-byte m (j * 64) 64 (k * 4) (omega arit
     byte : (i : ℕ) → i < 4 → getD (part (j * 64) 64 m) (k * 4 + i) 0 ≡ getD m (j * 64 + k * 4 + i) 0
     byte i small = let q : j * 64 + (k * 4 + i) ≡ j * 64 + k * 4 + i = omega arith in part-byte m (j * 64) 64 (k * 4 + i) (omega arith) ∙ ap (λ (a : ℕ). getD m a 0) q
 
+-- every edition gives all words but word 7 alike
+framed-kept : (x : Entry) (k : ℕ) → (k ≡ 7 → ⊥) → getD (framedWords x) k 0 ≡ getD (formerWords x) k 0
+framed-kept x zero other = refl
+framed-kept x (suc zero) other = refl
+framed-kept x (suc (suc zero)) other = refl
+framed-kept x (suc (suc (suc zero))) other = refl
+framed-kept x (suc (suc (suc (suc zero)))) other = refl
+framed-kept x (suc (suc (suc (suc (suc zero))))) other = refl
+framed-kept x (suc (suc (suc (suc (suc (suc zero)))))) other = refl
+framed-kept x (suc (suc (suc (suc (suc (suc (suc zero))))))) other = absurd (other refl)
+framed-kept x (suc (suc (suc (suc (suc (suc (suc (suc k)))))))) other = refl
+
+pub word-kept : (e : ℕ) (x : Entry) (k : ℕ) → (k ≡ 7 → ⊥) → getD (recordWords e x) k 0 ≡ getD (formerWords x) k 0
+word-kept e x k other = either (λ ws. getD ws k 0 ≡ getD (formerWords x) k 0) (leb 4 e) (λ _. framed-kept x k other) (λ _. refl)
+
+-- and word 7 by the edition
+pub word-former : (e : ℕ) (x : Entry) → e ≤ 3 → getD (recordWords e x) 7 0 ≡ 0
+word-former e x le = rw (lt-leb 4 e (omega arith))
+
+pub word-framed : (e : ℕ) (x : Entry) → 4 ≤ e → getD (recordWords e x) 7 0 ≡ x .size
+word-framed e x le = rw (le-leb 4 e le)
+
 -- a record to lend, whatever it holds
 pub blank : Entry
-blank = record { code = 0; kind = 0; place = place 0; key = partAt 0 0; value = partAt 0 0; reading = Plain }
+blank = record { code = 0; kind = 0; place = place 0; size = 0; key = partAt 0 0; value = partAt 0 0; reading = Plain }
 
 module _ (f e : ℕ) (image : List ℕ) (bs : Bytes image) (entries : List Entry) (l : Lists f e image entries) where
-  entries-whole : Each WholeRecord entries
+  entries-whole : Each (WholeRecord e) entries
   unfolding entriesIn
   entries-whole =
       let r = lists-read f e image entries l in
@@ -68,7 +90,7 @@ module _ (f e : ℕ) (image : List ℕ) (bs : Bytes image) (entries : List Entry
 
   module _ (m : List ℕ) (fits : length entries * 64 ≤ length m) where
     -- word k of record j
-    pub record-words : (j : ℕ) (x : Entry) → Item entries j x → (k : ℕ) → k < 16 → recordWord (listCall f e image m .memory) j k ≡ getD (recordWords x) k 0
+    pub record-words : (j : ℕ) (x : Entry) → Item entries j x → (k : ℕ) → k < 16 → recordWord (listCall f e image m .memory) j k ≡ getD (recordWords e x) k 0
     record-words j x i k lt =
         word-within (listCall f e image m .memory) j k lt
         ∙ ap (word (k * 4)) (list-lent f e image m .stands entries l fits j x i)
@@ -78,7 +100,8 @@ module _ (f e : ℕ) (image : List ℕ) (bs : Bytes image) (entries : List Entry
     unfolding said
     record-said j x i =
         let w = record-words j x i in
-        rw (w 0 (omega arith), w 3 (omega arith), w 4 (omega arith), w 5 (omega arith), w 6 (omega arith))
+        let word : (k : ℕ) → k < 7 → recordWord (listCall f e image m .memory) j k ≡ getD (formerWords x) k 0 = (λ k lt. w k (omega arith) ∙ word-kept e x k (λ q. omega (arith, q))) in
+        rw (word 0 (omega arith), word 3 (omega arith), word 4 (omega arith), word 5 (omega arith), word 6 (omega arith))
 
     -- the list answers as the check
     pub list-answers : Counts (tellsCheck f e image) (length entries) → listCall f e image m .answer ≡ checkCall f e image

@@ -7,6 +7,8 @@ use mathlib.Core.Bool.{Bool, false}
 use native.Mathlib.Omega.{arith}
 use lib.ListN.{length, getD, replicate, List·getD-append}
 use lib.Seq.{getD-append-add}
+use lib.Dec.{leb}
+use borrow.Author.Tests.{lt-leb}
 use Rattle.layout.specs.declared.Format.{Format}
 use Rattle.layout.specs.declared.Format.the-variants.{Fboss, Vpd, Tiny, Onie}
 use Rattle.layout.specs.declared.Entry.{Entry}
@@ -29,9 +31,9 @@ use Rattle.laws.proofs.Passes.{raw-code}
 use Rattle.laws.proofs.Walking.{Frames}
 use Rattle.laws.proofs.Calls.{accepted-reading}
 use Rattle.records.specs.Words.{wordBytes, wordsBytes, readingWords, recordWords, recordBytes}
-use Rattle.records.proofs.Words.{length-words, reading-eight}
+use Rattle.records.proofs.Words.{length-words, record-sixteen}
 use Rattle.promises.proofs.Entries.{Inside, held}
-use Rattle.answers.specs.Records.{WholeRecord, WholeRecords}
+use Rattle.answers.specs.Records.{WholeRecord, WholeRecords, FormerRecords}
 use Rattle.answers.proofs.Readings.{Bytes, Words, each-take, each-part, byte-of, then, reading-words}
 
 -- ---- words in bytes
@@ -71,23 +73,21 @@ words-before ws t k fits lt = word-before (wordsBytes ws) t (k * 4) (omega (arit
 
 -- ---- records
 
-length-reading : (r : Reading) → length (readingWords r) ≡ 8
-length-reading r = sym (ap length (reading-eight r))
-
 noughts : Words (replicate 8 0)
 noughts = then 0 z (then 0 z (then 0 z (then 0 z (then 0 z (then 0 z (then 0 z (then 0 z none)))))))
   where
     z : 0 < 4294967296
     z = omega arith
 
-record-whole : (x : Entry) → x .code < 4294967296 → x .kind < 4294967296 → Inside limit x → Words (toldReading (x .reading)) → WholeRecord x
+record-whole : (e : ℕ) (x : Entry) → x .code < 4294967296 → x .kind < 4294967296 → Inside limit x → Words (toldReading (x .reading)) → WholeRecord e x
 unfolding recordBytes
-record-whole x c k i r =
-    let eight = length-reading (x .reading) in
-    record { fits = fits; sixteen = omega arith; read = λ k lt. words-back (recordWords x) k fits (omega arith) }
+record-whole e x c k i r =
+    let sixteen = record-sixteen e x in
+    let whole = either Words (leb 4 e) (λ _. fits (x .size) (omega arith)) (λ _. fits 0 (omega arith)) in
+    record { fits = whole; sixteen = sixteen; read = λ k lt. words-back (recordWords e x) k whole (omega arith) }
   where
-    fits : Words (recordWords x)
-    fits =
+    fits : (w : ℕ) → w < 4294967296 → Words (x .code ∷ x .kind ∷ x .place .0 ∷ x .key .place .0 ∷ x .key .len ∷ x .value .place .0 ∷ x .value .len ∷ w ∷ readingWords (x .reading))
+    fits w lt =
         then (x .code) c
         (then (x .kind) k
         (then (x .place .0) (omega arith)
@@ -95,7 +95,7 @@ record-whole x c k i r =
         (then (x .key .len) (omega arith)
         (then (x .value .place .0) (omega arith)
         (then (x .value .len) (omega arith)
-        (then 0 (omega arith) (each-take 8 (toldReading (x .reading) ++ replicate 8 0) (each-append (toldReading (x .reading)) (replicate 8 0) r noughts)))))))))
+        (then w lt (each-take 8 (toldReading (x .reading) ++ replicate 8 0) (each-append (toldReading (x .reading)) (replicate 8 0) r noughts)))))))))
 
 -- ---- entries
 
@@ -109,10 +109,10 @@ kind-small f e c lt = either (λ n. n < 4294967296) (names (shape f) e c) (λ _.
     numbered Tiny = unfold tiny in (omega arith)
     numbered Onie = unfold onie in (omega arith)
 
-entry-whole : (f : Format) (e p : ℕ) (r : Raw) → r .frame .code < 256 → Bytes (r .bytes) → Inside limit (entryOf (shape f) e p r) → WholeRecord (entryOf (shape f) e p r)
+entry-whole : (f : Format) (e p : ℕ) (r : Raw) → r .frame .code < 256 → Bytes (r .bytes) → Inside limit (entryOf (shape f) e p r) → WholeRecord e (entryOf (shape f) e p r)
 unfolding entryOf content
 entry-whole f e p r c bs i =
-    record-whole (entryOf (shape f) e p r) (omega arith) (kind-small f e (r .frame .code) c) i
+    record-whole e (entryOf (shape f) e p r) (omega arith) (kind-small f e (r .frame .code) c) i
     (either (λ x. Words (toldReading x)) (names (shape f) e (r .frame .code))
     (λ _. reading-words f (r .frame .code) (content r .value) (each-part (r .frame .val) (r .frame .vlen) (r .bytes) bs))
     (λ _. plain))
@@ -121,7 +121,7 @@ entry-whole f e p r c bs i =
     plain = unfold toldReading in (then 0 (omega arith) none)
 
 entries-whole : (f : Format) (e : ℕ) (b : Bool) (p : ℕ) (rs : List Raw) → Frames (shape f) (grammar f) b rs → Bytes (flat rs) → Each (Inside limit) (entriesOf (shape f) e p rs) →
-    Each WholeRecord (entriesOf (shape f) e p rs)
+    Each (WholeRecord e) (entriesOf (shape f) e p rs)
 unfolding entriesOf
 entries-whole f e b p [] fs bs none = none
 entries-whole f e b p (r ∷ rs) fs bs (also i is) =
@@ -133,10 +133,16 @@ pub whole-records : WholeRecords
 unfolding entriesIn
 whole-records f e img bs = go (readImage f e img) refl
   where
-    go : (x : Read) → readImage f e img ≡ x → Each WholeRecord (entriesBy x e)
+    go : (x : Read) → readImage f e img ≡ x → Each (WholeRecord e) (entriesBy x e)
     go (accepted g start rs) q =
         let h = held f e img g start rs q in
         let m = accepted-reading f e img g start rs q .made in
         let H = shape g .header (length (flat rs)) in
         entries-whole g e false start rs (h .frames) (each-left (flat rs) _ (each-right H _ (rw (m .is) at bs))) (h .inside)
     go (refused r) q = none
+
+-- ---- editions 1 to 3
+
+pub former-records : FormerRecords
+unfolding recordBytes
+former-records e x le = rw (lt-leb 4 e (omega arith))

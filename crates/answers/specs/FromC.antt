@@ -18,6 +18,7 @@ use Rattle.laws.specs.Grammar.{Each, Published}
 use Rattle.records.specs.Words.{wordsBytes}
 use Rattle.records.specs.Exports.{checkCall, valueCall, stringCall, entryCall, listCall, stepCall, writeCall, editCall}
 use Rattle.promises.specs.Words.{Serves, Item}
+use Rattle.promises.specs.Listing.{EndsAt}
 use Rattle.promises.specs.Names.{Named}
 use Rattle.promises.specs.Kinds.{Means}
 use Rattle.promises.specs.Numbers.{imageNumbers, writeNumbers}
@@ -100,6 +101,18 @@ pub record KindFromC (f e : ℕ) (format : Format) (image records : List ℕ) (j
   pub kindless : (Named format e (recordWord records j 0) → ⊥) → recordWord records j 1 ≡ 0
   pub unread : (Named format e (recordWord records j 0) → ⊥) → (k : ℕ) → k < 8 → recordWord records j (8 + k) ≡ 0
 
+-- word 7, of an accepted image: 0 in editions 1 to 3. From edition 4 on it is the length of the whole frame: a record's first byte and it together are the first byte of the next record,
+-- and of the last one where the end begins
+pub record FramesFromC (f e : ℕ) (image : List ℕ) : Type 0 where
+  pub format : Format
+  pub serves : Serves f e format
+  pub former : e ≤ 3 → (m : List ℕ) → countOf (checkCall f e image) * 64 ≤ length m → (j : ℕ) → j < countOf (checkCall f e image) →
+      recordWord (listCall f e image m .memory) j 7 ≡ 0
+  pub next : 4 ≤ e → (m : List ℕ) → countOf (checkCall f e image) * 64 ≤ length m → (j : ℕ) → j + 1 < countOf (checkCall f e image) →
+      let records = listCall f e image m .memory in recordWord records j 2 + recordWord records j 7 ≡ recordWord records (j + 1) 2
+  pub last : 4 ≤ e → (m : List ℕ) → countOf (checkCall f e image) * 64 ≤ length m → (j : ℕ) → j + 1 ≡ countOf (checkCall f e image) →
+      let records = listCall f e image m .memory in EndsAt format image (recordWord records j 2 + recordWord records j 7)
+
 -- every accepted image is one of the published rules, and is read as those say
 pub record AcceptedFromC (f e : ℕ) (image : List ℕ) : Type 0 where
   pub format : Format
@@ -108,13 +121,16 @@ pub record AcceptedFromC (f e : ℕ) (image : List ℕ) : Type 0 where
   pub published : Published format e image contents
   pub read : ReadFromC f e image contents
   pub kinds : (m : List ℕ) → length contents * 64 ≤ length m → (j : ℕ) → j < length contents → KindFromC f e format image (listCall f e image m .memory) j
+  pub frames : FramesFromC f e image
 
 -- ---- demand 3
 
--- record j of an older edition's list, beside a newer one's: all words are the same where the older edition names the code; else kind and reading are 0 and the others the same
+-- record j of an older edition's list, beside a newer one's: but for word 7 all words are the same where the older edition names the code; else kind and reading are 0 and the others
+-- the same. Word 7 is the same where the older edition has it
 pub record SameRecord (format : Format) (o : ℕ) (older newer : List ℕ) (j : ℕ) : Type 0 where
-  pub placed : (k : ℕ) → k < 8 → (k ≡ 1 → ⊥) → recordWord older j k ≡ recordWord newer j k
-  pub named : Named format o (recordWord older j 0) → (k : ℕ) → k < 16 → recordWord older j k ≡ recordWord newer j k
+  pub placed : (k : ℕ) → k < 7 → (k ≡ 1 → ⊥) → recordWord older j k ≡ recordWord newer j k
+  pub framed : 4 ≤ o → recordWord older j 7 ≡ recordWord newer j 7
+  pub named : Named format o (recordWord older j 0) → (k : ℕ) → k < 16 → (k ≡ 7 → ⊥) → recordWord older j k ≡ recordWord newer j k
   pub kindless : (Named format o (recordWord older j 0) → ⊥) → recordWord older j 1 ≡ 0
   pub unread : (Named format o (recordWord older j 0) → ⊥) → (k : ℕ) → 8 ≤ k → k < 16 → recordWord older j k ≡ 0
 
@@ -125,12 +141,13 @@ pub record OlderFromC (f o n : ℕ) (image : List ℕ) : Type 0 where
   pub alike : (m : List ℕ) → countOf (checkCall f n image) * 64 ≤ length m → (j : ℕ) → j < countOf (checkCall f n image) →
       SameRecord format o (listCall f o image m .memory) (listCall f n image m .memory) j
 
--- edition n reads its former list with value i replaced, in the whole output and in its part up to the length given
+-- edition n reads its former list with value i replaced, in the whole output and in its part up to the length given, and the frames of both stand one after another
 pub record EditedFromC (f n : ℕ) (image : List ℕ) (i : ℕ) (value output : List ℕ) (m : ℕ) : Type 0 where
   pub former : List Content
   pub before : ReadFromC f n image former
   pub whole : ReadFromC f n output (replaced former i value)
   pub front : ReadFromC f n (take m output) (replaced former i value)
+  pub frames : FramesFromC f n output × FramesFromC f n (take m output)
 
 -- o is no newer than n
 pub record FromC : Type 0 where

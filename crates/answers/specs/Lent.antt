@@ -34,7 +34,7 @@ pub record UnchangedLent : Type 0 where
 pub record ListLent (f e : ℕ) (img m : List ℕ) : Type 0 where
   pub answers : (records : List Entry) → length records ≡ length m / 64 → listCall f e img m .answer ≡ packed (tellsList f e img records)
   pub stands : (entries : List Entry) → Lists f e img entries → length entries * 64 ≤ length m → (j : ℕ) (x : Entry) → Item entries j x →
-      part (j * 64) 64 (listCall f e img m .memory) ≡ recordBytes x
+      part (j * 64) 64 (listCall f e img m .memory) ≡ recordBytes e x
   pub beyond : (entries : List Entry) → Lists f e img entries → length entries * 64 ≤ length m →
       drop (length entries * 64) (listCall f e img m .memory) ≡ drop (length entries * 64) m
 
@@ -50,14 +50,14 @@ pub record Answers (t : Told) (m : List ℕ) (answer : ℕ) : Type 0 where
 pub record EntryLent (f e : ℕ) (img : List ℕ) (n : ℕ) (m : List ℕ) : Type 0 where
   pub answers : Answers (tellsEntry f e img n) m (entryCall f e img n m .answer)
   pub stands : (x : Entry) → 64 ≤ length m → tellsEntry f e img n ≡ given x →
-      (take 64 (entryCall f e img n m .memory) ≡ recordBytes x) × (drop 64 (entryCall f e img n m .memory) ≡ drop 64 m)
+      (take 64 (entryCall f e img n m .memory) ≡ recordBytes e x) × (drop 64 (entryCall f e img n m .memory) ≡ drop 64 m)
 
 -- a step answers as entry n of the walk's own format, edition and number. Where it is not refused the walk's number is one more, read back from its bytes, and all else in the
 -- walk is as it was
 pub record StepLent (w img m : List ℕ) : Type 0 where
   pub answers : Answers (tellsEntry (walkFormat w) (walkEdition w) img (walkEntry w)) m (stepCall w img m .answer)
   pub stands : (x : Entry) → 64 ≤ length m → tellsEntry (walkFormat w) (walkEdition w) img (walkEntry w) ≡ given x →
-      (take 64 (stepCall w img m .memory) ≡ recordBytes x) × (drop 64 (stepCall w img m .memory) ≡ drop 64 m)
+      (take 64 (stepCall w img m .memory) ≡ recordBytes (walkEdition w) x) × (drop 64 (stepCall w img m .memory) ≡ drop 64 m)
   pub onward : numberOf (stepCall w img m .answer) ≡ 0 →
       (walkFormat (stepCall w img m .walk) ≡ walkFormat w) × (walkEdition (stepCall w img m .walk) ≡ walkEdition w)
       × (walkEntry (stepCall w img m .walk) ≡ walkEntry w + 1) × (drop 16 (stepCall w img m .walk) ≡ drop 16 w)

@@ -1,21 +1,28 @@
 -- An entry record in lent bytes loses nothing: every word of it fits four bytes, and C reads the word back (docs/C-INTERFACE.md, "Layouts in lent bytes").
 -- Assumes nothing.
-use Prim.Native.Nat.{ℕ, _*_, _<_}
+use Prim.Native.Nat.{ℕ, _*_, _≤_, _<_}
 use mathlib.Core.Path.{_≡_}
-use mathlib.Core.List.{List}
-use lib.ListN.{length, getD}
+use mathlib.Core.List.{List, _∷_, _++_}
+use lib.ListN.{length, getD, take, replicate}
 use Rattle.layout.specs.declared.Entry.{Entry}
-use Rattle.layout.specs.Calls.{entriesIn}
+use Rattle.layout.specs.Calls.{toldReading, entriesIn}
 use Rattle.layout.specs.Write.{word}
 use Rattle.laws.specs.Grammar.{Each}
-use Rattle.records.specs.Words.{recordWords, recordBytes}
+use Rattle.records.specs.Words.{wordsBytes, recordWords, recordBytes}
 
--- word k is at byte k × 4, low byte first
-pub record WholeRecord (x : Entry) : Type 0 where
-  pub fits : Each (λ w. w < 4294967296) (recordWords x)
-  pub sixteen : length (recordWords x) ≡ 16
-  pub read : (k : ℕ) → k < 16 → word (k * 4) (recordBytes x) ≡ getD (recordWords x) k 0
+-- word k of an edition's record is at byte k × 4, low byte first
+pub record WholeRecord (e : ℕ) (x : Entry) : Type 0 where
+  pub fits : Each (λ w. w < 4294967296) (recordWords e x)
+  pub sixteen : length (recordWords e x) ≡ 16
+  pub read : (k : ℕ) → k < 16 → word (k * 4) (recordBytes e x) ≡ getD (recordWords e x) k 0
 
 -- of every image, which is a list of bytes
 abbrev pub WholeRecords : Type 0
-WholeRecords = (f e : ℕ) (img : List ℕ) → Each (λ b. b < 256) img → Each WholeRecord (entriesIn f e img)
+WholeRecords = (f e : ℕ) (img : List ℕ) → Each (λ b. b < 256) img → Each (WholeRecord e) (entriesIn f e img)
+
+-- the record that editions 1 to 3 give out is, byte for byte, the one of before edition 4: its words in the order of docs/C-INTERFACE.md, and a 0 as word 7
+abbrev pub FormerRecords : Type 0
+FormerRecords =
+    (e : ℕ) (x : Entry) → e ≤ 3 →
+    recordBytes e x
+    ≡ wordsBytes (x .code ∷ x .kind ∷ x .place .0 ∷ x .key .place .0 ∷ x .key .len ∷ x .value .place .0 ∷ x .value .len ∷ 0 ∷ take 8 (toldReading (x .reading) ++ replicate 8 0))

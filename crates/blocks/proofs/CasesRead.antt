@@ -40,6 +40,7 @@ cases =
     ∷ reads 4 3 (whole (hex "01 41 00 09 00 9C 18 FF FE 81 80 7F 01 D1 9F E6 C4") (hex "6F 8A 69 1D")) (replicate 17 7) (Tells 17 (blockSaid 1 4 reversed)) (hex "01 41 00 09 00 9C 18 FF FE 81 80 7F 01 D1 9F E6 C4")
     ∷ reads 4 3 (whole (hex "03 00 FF 7F 00 09 00 01 02 03 04 05 06 07 08 0B 63 87 DB") (hex "71 EF 08 26")) (replicate 19 7) (Tells 19 (blockSaid 3 6 (offsets (pos 1) (pos 2) (pos 3) (pos 4) (pos 5) (pos 6) (pos 7) (pos 8)))) (hex "03 00 FF 7F 00 09 00 01 02 03 04 05 06 07 08 0B 63 87 DB")
     -- ---- the buffer: longer (the bytes past the payload stay), one short, none
+    ∷ reads 4 4 single (replicate 25 7) (Tells 24 (blockSaid 8 11 zeros)) (example ++ hex "07")
     ∷ reads 4 3 single (replicate 25 7) (Tells 24 (blockSaid 8 11 zeros)) (example ++ hex "07")
     ∷ reads 4 3 (whole short (hex "C7 18 ED 1B")) (hex "00 01 02 03 04 05 06 07 08 09 0A 0B 0C 0D 0E 0F 10 11 12 13") (Tells 16 (blockSaid 0 3 varied)) (hex "00 00 09 00 01 7F 80 81 FE FF 18 9C 60 FF D2 4C 10 11 12 13")
     ∷ reads 4 3 (whole short (hex "C7 18 ED 1B")) (hex "00 01 02 03 04 05 06 07 08 09 0A 0B 0C 0D 0E") (unread 12 0) (hex "00 01 02 03 04 05 06 07 08 09 0A 0B 0C 0D 0E")
@@ -101,7 +102,7 @@ cases =
     ∷ unreads 3 0 single 24 (refusal 16 0)
     ∷ unreads 5 0 single 24 (refusal 16 0)
     ∷ unreads 4 0 single 24 (refusal 1 0)
-    ∷ unreads 4 4 single 24 (refusal 1 0)
+    ∷ unreads 4 5 single 24 (refusal 1 0)
     ∷ unreads 4 9 single 24 (refusal 1 0)
     ∷ unreads 4 259 single 24 (refusal 1 0)
     ∷ unreads 4 1 single 24 (refusal 16 0)
@@ -110,9 +111,9 @@ cases =
     ∷ sweeps 300 (λ f. reading f 3 [] 0) 16 (run 0 3 ++ run 5 299)
     ∷ sweeps 300 (λ f. reading f 9 [] 0) 1 (4 ∷ [])
     ∷ sweeps 300 (λ f. reading f 9 [] 0) 16 (run 0 3 ++ run 5 299)
-    ∷ sweeps 300 (λ e. reading 4 e [] 0) 3 (3 ∷ [])
+    ∷ sweeps 300 (λ e. reading 4 e [] 0) 3 (3 ∷ 4 ∷ [])
     ∷ sweeps 300 (λ e. reading 4 e [] 0) 16 (1 ∷ 2 ∷ [])
-    ∷ sweeps 300 (λ e. reading 4 e [] 0) 1 (0 ∷ run 4 299)
+    ∷ sweeps 300 (λ e. reading 4 e [] 0) 1 (0 ∷ run 5 299)
     ∷ sweeps 300 (λ e. reading 3 e [] 0) 16 (run 0 299)
     ∷ numbers (reading 3 3 (replicate 65537 0) 0) 16
     ∷ numbers (reading 3 3 single 65537) 16

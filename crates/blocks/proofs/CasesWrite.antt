@@ -102,7 +102,7 @@ cases =
     ∷ unwrites 3 0 (text "DQ000MPW") zeros (24 ∷ []) 29 (refusal 16 0)
     ∷ unwrites 5 0 (text "DQ000MPW") zeros (24 ∷ []) 29 (refusal 16 0)
     ∷ unwrites 4 0 (text "DQ000MPW") zeros (24 ∷ []) 29 (refusal 1 0)
-    ∷ unwrites 4 4 (text "DQ000MPW") zeros (24 ∷ []) 29 (refusal 1 0)
+    ∷ unwrites 4 5 (text "DQ000MPW") zeros (24 ∷ []) 29 (refusal 1 0)
     ∷ unwrites 4 9 (text "DQ000MPW") zeros (24 ∷ []) 29 (refusal 1 0)
     ∷ unwrites 4 259 (text "DQ000MPW") zeros (24 ∷ []) 29 (refusal 1 0)
     ∷ unwrites 4 1 (text "DQ000MPW") zeros (24 ∷ []) 29 (refusal 16 0)
@@ -111,9 +111,9 @@ cases =
     ∷ sweeps 300 (λ f. writing f 3 [] [] 0) 16 (run 0 3 ++ run 5 299)
     ∷ sweeps 300 (λ f. writing f 9 [] [] 0) 1 (4 ∷ [])
     ∷ sweeps 300 (λ f. writing f 9 [] [] 0) 16 (run 0 3 ++ run 5 299)
-    ∷ sweeps 300 (λ e. writing 4 e [] [] 0) 18 (3 ∷ [])
+    ∷ sweeps 300 (λ e. writing 4 e [] [] 0) 18 (3 ∷ 4 ∷ [])
     ∷ sweeps 300 (λ e. writing 4 e [] [] 0) 16 (1 ∷ 2 ∷ [])
-    ∷ sweeps 300 (λ e. writing 4 e [] [] 0) 1 (0 ∷ run 4 299)
+    ∷ sweeps 300 (λ e. writing 4 e [] [] 0) 1 (0 ∷ run 5 299)
     ∷ numbers (writing 3 3 (text "DQ000MPW") [] 65537) 16
     ∷ numbers (writing 5 9 (text "DQ000MPW") [] 65537) 16
     ∷ numbers (writing 4 9 (text "DQ000MPW") [] 65537) 1

@@ -34,13 +34,13 @@ use Rattle.records.proofs.Words.{length-record, length-records}
 
 -- ---- records
 
-records-snoc : (xs : List Entry) (x : Entry) → recordsBytes (xs ++ (x ∷ [])) ≡ recordsBytes xs ++ recordBytes x
+records-snoc : (e : ℕ) (xs : List Entry) (x : Entry) → recordsBytes e (xs ++ (x ∷ [])) ≡ recordsBytes e xs ++ recordBytes e x
 unfolding recordsBytes
-records-snoc xs x = joined-append recordsBytes recordBytes refl (λ y ys. refl) xs (x ∷ []) ∙ ap (λ (l : List ℕ). recordsBytes xs ++ l) (append-nil (recordBytes x))
+records-snoc e xs x = joined-append (recordsBytes e) (recordBytes e) refl (λ y ys. refl) xs (x ∷ []) ∙ ap (λ (l : List ℕ). recordsBytes e xs ++ l) (append-nil (recordBytes e x))
 
-records-none : recordsBytes [] ≡ []
+records-none : (e : ℕ) → recordsBytes e [] ≡ []
 unfolding recordsBytes
-records-none = refl
+records-none e = refl
 
 -- ---- what stands at a place
 
@@ -76,7 +76,7 @@ module _ (g : Format) (e : ℕ) (image : List ℕ) (start end : ℕ) where
     pub made : List Entry
     pub joined : entries ≡ made ++ entriesOf (shape g) e p (pass .todo)
     pub place : at ≡ length made * 64
-    pub is : out ≡ over d 0 (recordsBytes made)
+    pub is : out ≡ over d 0 (recordsBytes e made)
 
   pub filling-starts : (d : List ℕ) → IsDone (walked g image start end) → Filling d d start 0 false
   filling-starts d w =
@@ -86,7 +86,7 @@ module _ (g : Format) (e : ℕ) (image : List ℕ) (start end : ℕ) where
         made = [];
         joined = ap (entriesOf (shape g) e start) (sym (f .todo));
         place = refl;
-        is = sym (ap (over d 0) records-none ∙ over-nil d 0);
+        is = sym (ap (over d 0) (records-none e) ∙ over-nil d 0);
       }
 
   module _ {d out : List ℕ} {p at : ℕ} {shut : Bool} (fits : length all * 64 ≤ length d) (w : Filling d out p at shut) where
@@ -94,7 +94,7 @@ module _ (g : Format) (e : ℕ) (image : List ℕ) (start end : ℕ) where
     few = sym (length-append (w .made) (entriesOf (shape g) e p (w .pass .todo))) ∙ sym (ap length (w .joined)) ∙ entries-count (shape g) e start all
 
     pub filling-length : length out ≡ length d
-    filling-length = ap length (w .is) ∙ length-over d 0 (recordsBytes (w .made)) (omega (arith, few, length-records (w .made)))
+    filling-length = ap length (w .is) ∙ length-over d 0 (recordsBytes e (w .made)) (omega (arith, few, length-records e (w .made)))
 
     -- what is known where an entry stands
     pub record Goes (s : Standing) (out′ : List ℕ) : Type 0 where
@@ -103,13 +103,13 @@ module _ (g : Format) (e : ℕ) (image : List ℕ) (start end : ℕ) where
       pub bound : s .next ≤ end
       pub low : at + 64 ≤ length d
 
-    pub filling-goes : (s : Standing) (out′ : List ℕ) → hereAt (shape g) e image shut p end ≡ Stands s → out′ ≡ copied out at (recordBytes (s .entry)) → Goes s out′
+    pub filling-goes : (s : Standing) (out′ : List ℕ) → hereAt (shape g) e image shut p end ≡ Stands s → out′ ≡ copied out at (recordBytes e (s .entry)) → Goes s out′
     filling-goes s out′ q is =
         let h = here-framed (shape g) e image shut p end s q in
         let f = h .frame in
         let x = pass-on (laws g) image end p shut f (w .pass) (h .reads) in
         let l = framed-lies g shut image p end f (h .reads) in
-        let r = recordBytes (s .entry) in
+        let r = recordBytes e (s .entry) in
         let rest = entriesOf (shape g) e (p + f .size) (x .todo) in
         let heads : entriesOf (shape g) e p (w .pass .todo) ≡ s .entry ∷ rest =
         ap (entriesOf (shape g) e p) (x .heads)
@@ -131,10 +131,10 @@ module _ (g : Format) (e : ℕ) (image : List ℕ) (start end : ℕ) where
           place = omega (arith, w .place, length-append (w .made) (s .entry ∷ []));
           is =
               is
-              ∙ copied-over out at r (omega (arith, filling-length, length-record (s .entry), low))
+              ∙ copied-over out at r (omega (arith, filling-length, length-record e (s .entry), low))
               ∙ ap (λ (y : List ℕ). over y at r) (w .is)
-              ∙ over-over d 0 (recordsBytes (w .made)) r at (omega arith) (omega (arith, w .place, length-records (w .made)))
-              ∙ ap (over d 0) (sym (records-snoc (w .made) (s .entry)));
+              ∙ over-over d 0 (recordsBytes e (w .made)) r at (omega arith) (omega (arith, w .place, length-records e (w .made)))
+              ∙ ap (over d 0) (sym (records-snoc e (w .made) (s .entry)));
         } in
         let moved : (n : ℕ) (b : Bool) → n ≡ p + f .size → b ≡ shape g .last (f .code) → Filling d out′ n (at + 64) b = λ n b i j. rw (i, j) fill in
         record {
@@ -144,14 +144,14 @@ module _ (g : Format) (e : ℕ) (image : List ℕ) (start end : ℕ) where
           low = low;
         }
 
-    pub filling-over : hereAt (shape g) e image shut p end ≡ Over → out ≡ copied d 0 (recordsBytes entries)
+    pub filling-over : hereAt (shape g) e image shut p end ≡ Over → out ≡ copied d 0 (recordsBytes e entries)
     unfolding hereAt
     filling-over q =
         let none : w .pass .todo ≡ [] = go (next (shape g) shut (part p (end - p) image)) refl q in
         let same : entries ≡ w .made = w .joined ∙ ap (λ (rs : List Raw). w .made ++ entriesOf (shape g) e p rs) none ∙ ap (λ (l : List Entry). w .made ++ l) (entries-none (shape g) e p) ∙ append-nil (w .made) in
         w .is
-        ∙ ap (λ (xs : List Entry). over d 0 (recordsBytes xs)) (sym same)
-        ∙ sym (copied-over d 0 (recordsBytes entries) (omega (arith, length-records entries, entries-count (shape g) e start all, fits)))
+        ∙ ap (λ (xs : List Entry). over d 0 (recordsBytes e xs)) (sym same)
+        ∙ sym (copied-over d 0 (recordsBytes e entries) (omega (arith, length-records e entries, entries-count (shape g) e start all, fits)))
       where
         go : (x : Next) → next (shape g) shut (part p (end - p) image) ≡ x → hereBy x (shape g) e p (part p (end - p) image) ≡ Over → w .pass .todo ≡ []
         go (Framed f) n q = let z : _≡_ {A = ℕ} 0 1 = cc in absurd (omega arith)

@@ -46,17 +46,17 @@ over-first m s n e le = copied-over m 0 s (omega arith) ∙ ap (λ (k : ℕ). s 
 
 -- ---- one record
 
-module _ (m : List ℕ) where
-  pub none-recorded : (r : Refusal) (l : Lookup) → l ≡ Missing r → recorded l m ≡ kept r m
+module _ (e : ℕ) (m : List ℕ) where
+  pub none-recorded : (r : Refusal) (l : Lookup) → l ≡ Missing r → recorded e l m ≡ kept r m
   none-recorded r l q = rw q
 
-  pub not-recorded : (x : Entry) (l : Lookup) → l ≡ Found x → length m < 64 → recorded l m ≡ kept (refusal 12 0) m
+  pub not-recorded : (x : Entry) (l : Lookup) → l ≡ Found x → length m < 64 → recorded e l m ≡ kept (refusal 12 0) m
   not-recorded x l q lt = rw (q, lt-leb 64 (length m) lt)
 
-  pub is-recorded : (x : Entry) (l : Lookup) → l ≡ Found x → 64 ≤ length m → recorded l m ≡ record { answer = packed (told 1 (partAt 0 0) []); memory = copied m 0 (recordBytes x) }
-  is-recorded x l q le = rw (q, le-leb 64 (length m) le, over-first m (recordBytes x) 64 (length-record x) le, counted 1 (x ∷ []))
+  pub is-recorded : (x : Entry) (l : Lookup) → l ≡ Found x → 64 ≤ length m → recorded e l m ≡ record { answer = packed (told 1 (partAt 0 0) []); memory = copied m 0 (recordBytes e x) }
+  is-recorded x l q le = rw (q, le-leb 64 (length m) le, over-first m (recordBytes e x) 64 (length-record e x) le, counted 1 (x ∷ []))
 
-pub entry-is : (f e : ℕ) (img : List ℕ) (n : ℕ) (m : List ℕ) → entryCall f e img n m ≡ recorded (entryAt f e img n) m
+pub entry-is : (f e : ℕ) (img : List ℕ) (n : ℕ) (m : List ℕ) → entryCall f e img n m ≡ recorded e (entryAt f e img n) m
 unfolding entryCall
 entry-is f e img n m = refl
 
@@ -110,12 +110,12 @@ module _ (w img m : List ℕ) where
       stepCall w img m ≡ record {
         answer = packed (told 1 (partAt 0 0) []);
         walk = copied w 8 (wordsBytes (stepsTo w img .next ∷ stepsTo w img .next / 4294967296 ∷ []));
-        memory = copied m 0 (recordBytes x);
+        memory = copied m 0 (recordBytes (walkEdition w) x);
       }
   unfolding stepCall
   step-given x q le =
       ap (λ (l : Lookup). steppedTo l (stepsTo w img .next) w m) q
-      ∙ rw (le-leb 64 (length m) le, walk-moved (stepsTo w img .next) (short-walk w img x q), over-first m (recordBytes x) 64 (length-record x) le, counted 1 (x ∷ []))
+      ∙ rw (le-leb 64 (length m) le, walk-moved (stepsTo w img .next) (short-walk w img x q), over-first m (recordBytes (walkEdition w) x) 64 (length-record (walkEdition w) x) le, counted 1 (x ∷ []))
 
 -- ---- the list
 
@@ -137,9 +137,9 @@ module _ (f e : ℕ) (img m : List ℕ) where
     many : length given ≡ room .count
     many = entries-count (shape (room .format)) e (room .start) raws ∙ ap length (sym are) ∙ sym (took f e img room q .counts)
 
-    listed : listCall f e img m ≡ recordedAll given m
+    listed : listCall f e img m ≡ recordedAll e given m
     unfolding listCall
-    listed = ap (λ (x : Read). recordedBy x e m) (took f e img room q .read) ∙ ap (λ (rs : List Raw). recordedAll (entriesOf (shape (room .format)) e (room .start) rs) m) are
+    listed = ap (λ (x : Read). recordedBy x e m) (took f e img room q .read) ∙ ap (λ (rs : List Raw). recordedAll e (entriesOf (shape (room .format)) e (room .start) rs) m) are
 
     pub list-short : length m / 64 < room .count → listCall f e img m ≡ kept (refusal 12 0) m
     list-short lt = listed ∙ rw (lt-leb (length given) (length m / 64) (omega (arith, many)))
@@ -147,7 +147,7 @@ module _ (f e : ℕ) (img m : List ℕ) where
     pub record Fills : Type 0 where
       pub done : IsDone (walked (room .format) img (room .start) (room .end))
       pub room-enough : length raws * 64 ≤ length m
-      pub is : listCall f e img m ≡ record { answer = packed (told (room .count) (partAt 0 0) []); memory = copied m 0 (recordsBytes given) }
+      pub is : listCall f e img m ≡ record { answer = packed (told (room .count) (partAt 0 0) []); memory = copied m 0 (recordsBytes e given) }
 
     pub list-fills : room .count ≤ length m / 64 → Fills
     list-fills le =
@@ -158,5 +158,5 @@ module _ (f e : ℕ) (img m : List ℕ) where
           room-enough = enough;
           is =
               listed
-              ∙ rw (le-leb (length given) (length m / 64) (omega (arith, many)), over-first m (recordsBytes given) (length given * 64) (length-records given) (omega (arith, many, le)), many, counted (room .count) given);
+              ∙ rw (le-leb (length given) (length m / 64) (omega (arith, many)), over-first m (recordsBytes e given) (length given * 64) (length-records e given) (omega (arith, many, le)), many, counted (room .count) given);
         }

@@ -81,7 +81,7 @@ pub extern "C" fn boardid_entry(
             if out.len() < 64 {
                 return no_room();
             }
-            records::put_record(out, 0, e);
+            records::put_record(out, 0, edition, e);
             records::pack_count(1)
         }
     }
@@ -125,7 +125,7 @@ pub extern "C" fn boardid_step(walk: &mut [u8], image: &[u8], out: &mut [u8]) ->
             }
             let next = s.next;
             records::put_long(walk, 8, next.entry as u64);
-            records::put_record(out, 0, e);
+            records::put_record(out, 0, w.edition, e);
             records::pack_count(1)
         }
     }
@@ -136,7 +136,7 @@ pub extern "C" fn boardid_step(walk: &mut [u8], image: &[u8], out: &mut [u8]) ->
 // The records of all entries, from the first on. One pass over the image, from entry to entry.
 fn put_records(out: &mut [u8], format: Format, edition: u32, image: &[u8], start: usize, end: usize)
     requires { ⌜ IsDone (walked format (now image) start end) × (length (rawsIn (walked format (now image) start end)) * 64 ≤ length (now out)) ⌝ }
-    ensures { λ r. ⌜ now (out .exit) ≡ copied (now (out .entry)) 0 (recordsBytes (entriesOf (shape format) edition start (rawsIn (walked format (now (image .entry)) start end)))) ⌝ }
+    ensures { λ r. ⌜ now (out .exit) ≡ copied (now (out .entry)) 0 (recordsBytes edition (entriesOf (shape format) edition start (rawsIn (walked format (now (image .entry)) start end)))) ⌝ }
 {
     let mut p = start;
     let mut at: usize = 0;
@@ -149,7 +149,7 @@ fn put_records(out: &mut [u8], format: Format, edition: u32, image: &[u8], start
             }
             Here::Stands(s) => {
                 let e = s.entry;
-                records::put_record(out, at, e);
+                records::put_record(out, at, edition, e);
                 shut = s.shut;
                 p = s.next;
                 at += 64;

@@ -207,6 +207,7 @@ fn blank() -> Entry {
         code: 0,
         kind: 99,
         place: Place(0),
+        size: 0,
         key: key,
         value: value,
         reading: Reading::Plain,

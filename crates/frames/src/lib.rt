@@ -40,7 +40,7 @@ fn first_edition(format: Format) -> u32
 fn with_edition(edition: u32, format: Format) -> Chosen
     ensures { λ r. ⌜ r ≡ withEdition edition format ⌝ }
 {
-    if (1 <= edition) & (edition <= 3) {
+    if (1 <= edition) & (edition <= 4) {
         if first_edition(format) <= edition {
             return Chosen::Known(format);
         }

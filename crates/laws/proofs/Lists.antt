@@ -1,8 +1,8 @@
 -- What is known of a list of bytes from tests of its bytes, of lists that are joined item by item, and of each item of a list from its parts.
 -- Assumes nothing.
 use Prim.Native.Nat.{ℕ, suc, _<_}
-use mathlib.Core.Path.{_≡_, ap, sym, _∙_}
-use mathlib.Core.List.{List, [], _∷_, _++_, append-assoc}
+use mathlib.Core.Path.{_≡_, refl, ap, sym, _∙_}
+use mathlib.Core.List.{List, [], _∷_, _++_, append-assoc, map}
 use mathlib.Core.Bool.{true}
 use lib.ListN.{length, getD, drop}
 use lib.Seq.{drop-cons}
@@ -20,6 +20,10 @@ pub joined-append : {A B : Type 0} (h : List A → List B) (g : A → List B) �
 joined-append {B = B} h g nil one [] ys = ap (λ (l : List B). l ++ h ys) (sym nil)
 joined-append {B = B} h g nil one (x ∷ xs) ys =
     one x (xs ++ ys) ∙ ap (λ (l : List B). g x ++ l) (joined-append h g nil one xs ys) ∙ sym (append-assoc (g x) (h xs) (h ys)) ∙ ap (λ (l : List B). l ++ h ys) (sym (one x xs))
+
+pub length-map : {A B : Type 0} (f : A → B) (xs : List A) → length (map f xs) ≡ length xs
+length-map f [] = refl
+length-map f (x ∷ xs) = ap suc (length-map f xs)
 
 -- ---- what holds of each item
 

@@ -84,7 +84,7 @@ module _ {S : Shape} {G : Grammar} (L : Laws S G) where
       let k = key-placed (S .keyed) p r w in
       let here : p + r .frame .val + r .frame .vlen ≡ p + r .frame .size = omega (arith, w .valueLast) in
       let there : p + length (r .bytes ++ flat rs) ≡ p + r .frame .size + length (flat rs) = omega (arith, length-append (r .bytes) (flat rs), raw-size (fs .1)) in
-      (refl, k .0, k .1, rw (here, there) (records-tile e (S .last (r .frame .code)) rs (p + r .frame .size) (fs .2)))
+      (refl, k .0, k .1, here, rw there (records-tile e (S .last (r .frame .code)) rs (p + r .frame .size) (fs .2)))
 
 -- ---- one record for each entry
 

@@ -16,11 +16,12 @@ said image x =
       value = part (x .value .place .0) (x .value .len) image;
     }
 
--- records that tile the bytes from p to q: each stands where the one before it ends, its key before its value, and its value at its end
+-- records that tile the bytes from p to q: each stands where the one before it ends by that one's own length, its key before its value, and its value at its end
 abbrev pub Tiles : ℕ → List Entry → ℕ → Type 0
 Tiles p [] q = p ≡ q
 Tiles p (x ∷ xs) q =
-    (x .place .0 ≡ p) × (p < x .key .place .0) × (x .key .place .0 + x .key .len ≤ x .value .place .0) × Tiles (x .value .place .0 + x .value .len) xs q
+    (x .place .0 ≡ p) × (p < x .key .place .0) × (x .key .place .0 + x .key .len ≤ x .value .place .0)
+    × (x .value .place .0 + x .value .len ≡ p + x .size) × Tiles (p + x .size) xs q
 
 -- an entry with another value
 abbrev pub valued : Content → List ℕ → Content

@@ -149,20 +149,20 @@ noEntries = hex "54 6C 76 49 6E 66 6F 00 01 00 06 FE 04 D4 43 1C 18"
 abbrev pub named : ℕ → ℕ → ℕ → ℕ → ℕ → ℕ → Identity
 named s p major minor a b = record { serial = stringNumber s; part = stringNumber p; major = major; minor = minor; free0 = a; free1 = b }
 
--- the record of an entry in a format without keys: code, kind and place, the value's place and length, and the reading
-abbrev pub bare : ℕ → ℕ → ℕ → ℕ → ℕ → Reading → Entry
-bare c k p v n reading = record { code = c; kind = k; place = place p; key = partAt v 0; value = partAt v n; reading = reading }
+-- the record of an entry in a format without keys: code, kind, place and length of the whole frame, the value's place and length, and the reading
+abbrev pub bare : ℕ → ℕ → ℕ → ℕ → ℕ → ℕ → Reading → Entry
+bare c k p size v n reading = record { code = c; kind = k; place = place p; size = size; key = partAt v 0; value = partAt v n; reading = reading }
 
--- the record of a VPD entry: code, kind and place, the key's place and length, the value's
-abbrev pub keyed : ℕ → ℕ → ℕ → ℕ → ℕ → ℕ → ℕ → Entry
-keyed c k p a m v n = record { code = c; kind = k; place = place p; key = partAt a m; value = partAt v n; reading = Plain }
+-- the record of a VPD entry: code, kind, place and length of the whole frame, the key's place and length, the value's
+abbrev pub keyed : ℕ → ℕ → ℕ → ℕ → ℕ → ℕ → ℕ → ℕ → Entry
+keyed c k p size a m v n = record { code = c; kind = k; place = place p; size = size; key = partAt a m; value = partAt v n; reading = Plain }
 
 -- two records that no image has
 abbrev pub old : Entry
-old = bare 9 8 7 6 5 (Number 4)
+old = bare 9 8 7 10 6 5 (Number 4)
 
 abbrev pub older : Entry
-older = keyed 1 2 3 4 5 6 7
+older = keyed 1 2 3 11 4 5 6 7
 
 -- what an entry without a key says
 abbrev pub sayingBare : ℕ → List ℕ → Content
@@ -170,7 +170,7 @@ sayingBare c v = record { code = c; key = []; value = v }
 
 -- any record, to be written over
 abbrev pub blank : Entry
-blank = bare 0 0 0 0 0 Plain
+blank = bare 0 0 0 0 0 0 Plain
 
 -- a field without a key: code, and the value's place and length
 abbrev pub field : ℕ → ℕ → ℕ → Field
@@ -249,7 +249,7 @@ pub data Case : Type 0 where
   shortests : (n : ℕ) (answer : List ℕ) → Case
   -- the check of an image
   checks : (format edition : ℕ) (image : List ℕ) (answer : Checked) → Case
-  -- the check of an image, alike in editions 1 to 3
+  -- the check of an image, alike in editions 1 to 4
   alike : (format : ℕ) (image : List ℕ) (answer : Checked) → Case
   -- the number that a call gives, 0 where nothing is refused
   numbers : (n : ℕ) (answer : ℕ) → Case
@@ -293,7 +293,7 @@ pub data Answer : Type 0 where
   length-read : Length → Answer
   bytes : List ℕ → Answer
   checked : Checked → Answer
-  alike-checked : Checked → Checked → Checked → Answer
+  alike-checked : Checked → Checked → Checked → Checked → Answer
   listed : Listed → Answer
   records : List Entry → Answer
   looked-up : Lookup → Answer
@@ -322,7 +322,7 @@ given (check32 s answer) = number (check32Of s)
 given (lengths s answer) = length-read (groups 4 0 0 s)
 given (shortests n answer) = bytes (shortest n)
 given (checks f e image answer) = checked (checkImage f e image)
-given (alike f image answer) = alike-checked (checkImage f 1 image) (checkImage f 2 image) (checkImage f 3 image)
+given (alike f image answer) = alike-checked (checkImage f 1 image) (checkImage f 2 image) (checkImage f 3 image) (checkImage f 4 image)
 given (numbers n answer) = number n
 given (sweeps bound question n answer) = bytes (those bound 0 question n)
 given (lists f e image rs) = listed (listEntries f e image (replicate (length rs) blank))
@@ -351,7 +351,7 @@ wanted (check32 s answer) = number answer
 wanted (lengths s answer) = length-read answer
 wanted (shortests n answer) = bytes answer
 wanted (checks f e image answer) = checked answer
-wanted (alike f image answer) = alike-checked answer answer answer
+wanted (alike f image answer) = alike-checked answer answer answer answer
 wanted (numbers n answer) = number answer
 wanted (sweeps bound question n answer) = bytes answer
 wanted (lists f e image rs) = listed (record { answer = Accepted (length rs); records = rs })
@@ -387,21 +387,21 @@ cases =
     ∷ alike 1 (hex "FB FB 04 FF") (refuses 4 0)
     -- P: 01 03 53 4B 55 02 41 37 00: one entry, kind 513
     ∷ alike 2 (hex "01 03 53 4B 55 02 41 37 00") (Accepted 1)
-    ∷ lists 2 1 sku (keyed 0x01 513 0 2 3 6 2 ∷ [])
-    ∷ lists 2 2 sku (keyed 0x01 513 0 2 3 6 2 ∷ [])
-    ∷ lists 2 3 sku (keyed 0x01 513 0 2 3 6 2 ∷ [])
+    ∷ lists 2 1 sku (keyed 0x01 513 0 8 2 3 6 2 ∷ [])
+    ∷ lists 2 2 sku (keyed 0x01 513 0 8 2 3 6 2 ∷ [])
+    ∷ lists 2 3 sku (keyed 0x01 513 0 8 2 3 6 2 ∷ [])
     -- P: 01 00 00 00: 7 at 0. 01 80 80 80 80: 6 at 0. 01 80 01 41 00 00: accepted, value at 5, length 0
     ∷ alike 2 (hex "01 00 00 00") (refuses 7 0)
     ∷ alike 2 (hex "01 80 80 80 80") (refuses 6 0)
     ∷ alike 2 (hex "01 80 01 41 00 00") (Accepted 1)
-    ∷ finds 2 1 (hex "01 80 01 41 00 00") 0 (Found (keyed 0x01 513 0 3 1 5 0))
-    ∷ finds 2 2 (hex "01 80 01 41 00 00") 0 (Found (keyed 0x01 513 0 3 1 5 0))
-    ∷ finds 2 3 (hex "01 80 01 41 00 00") 0 (Found (keyed 0x01 513 0 3 1 5 0))
+    ∷ finds 2 1 (hex "01 80 01 41 00 00") 0 (Found (keyed 0x01 513 0 5 3 1 5 0))
+    ∷ finds 2 2 (hex "01 80 01 41 00 00") 0 (Found (keyed 0x01 513 0 5 3 1 5 0))
+    ∷ finds 2 3 (hex "01 80 01 41 00 00") 0 (Found (keyed 0x01 513 0 5 3 1 5 0))
     -- P: 01 01 41 00 01 01 41 00 00: 8 at 4
     ∷ alike 2 (hex "01 01 41 00 01 01 41 00 00") (refuses 8 4)
     -- P: FE 01 41 03 01 02 03 00: edition 1 accepts, kind 0; edition 2 gives 7 at 0, and so does edition 3
     ∷ checks 2 1 (hex "FE 01 41 03 01 02 03 00") (Accepted 1)
-    ∷ finds 2 1 (hex "FE 01 41 03 01 02 03 00") 0 (Found (keyed 0xFE 0 0 2 1 4 3))
+    ∷ finds 2 1 (hex "FE 01 41 03 01 02 03 00") 0 (Found (keyed 0xFE 0 0 7 2 1 4 3))
     ∷ checks 2 2 (hex "FE 01 41 03 01 02 03 00") (refuses 7 0)
     ∷ checks 2 3 (hex "FE 01 41 03 01 02 03 00") (refuses 7 0)
     ∷ finds 2 2 (hex "FE 01 41 03 01 02 03 00") 0 (misses 7 0)

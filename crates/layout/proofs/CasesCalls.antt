@@ -20,7 +20,7 @@ use Rattle.layout.proofs.Cases.{Case, checks, sweeps, fills, entries, f
 
 -- the record of the SKU image, as every edition lists it
 abbrev pub skuEntry : Entry
-skuEntry = keyed 0x01 513 0 2 3 6 2
+skuEntry = keyed 0x01 513 0 8 2 3 6 2
 
 -- number, place, count, part and entries of an answer
 abbrev pub saying : ℕ → ℕ → ℕ → Part → List Entry → Told
@@ -37,23 +37,29 @@ cases =
     ∷ checks 4 2 [] (refuses 16 0)
     ∷ checks 4 3 [] (refuses 3 0)
     ∷ checks 4 0 [] (refuses 1 0)
-    ∷ checks 4 4 [] (refuses 1 0)
+    ∷ checks 4 4 [] (refuses 3 0)
+    ∷ checks 4 5 [] (refuses 1 0)
     ∷ checks 4 9 [] (refuses 1 0)
     ∷ checks 5 3 [] (refuses 16 0)
+    ∷ checks 5 4 [] (refuses 16 0)
+    ∷ checks 5 5 [] (refuses 16 0)
     ∷ checks 5 9 [] (refuses 16 0)
     ∷ checks 0 9 [] (refuses 16 0)
     ∷ checks 260 3 [] (refuses 16 0)
     ∷ checks 257 1 [] (refuses 16 0)
     ∷ checks 258 1 (hex "00") (refuses 16 0)
     ∷ checks 1 0 [] (refuses 1 0)
-    ∷ checks 1 4 [] (refuses 1 0)
+    ∷ checks 1 4 [] (refuses 3 0)
+    ∷ checks 1 5 [] (refuses 1 0)
     ∷ checks 2 0 (hex "00") (refuses 1 0)
-    ∷ checks 2 4 (hex "00") (refuses 1 0)
+    ∷ checks 2 4 (hex "00") (Accepted 0)
+    ∷ checks 2 5 (hex "00") (refuses 1 0)
     ∷ checks 3 0 noTags (refuses 1 0)
     ∷ checks 3 1 noTags (Accepted 0)
     ∷ checks 3 2 noTags (Accepted 0)
     ∷ checks 3 3 noTags (Accepted 0)
-    ∷ checks 3 4 noTags (refuses 1 0)
+    ∷ checks 3 4 noTags (Accepted 0)
+    ∷ checks 3 5 noTags (refuses 1 0)
     ∷ checks 3 257 noTags (refuses 1 0)
     ∷ sweeps 300 (λ f. checking f 1 (hex "00")) 0 (2 ∷ [])
     ∷ sweeps 300 (λ f. checking f 2 (hex "00")) 3 (1 ∷ 3 ∷ [])
@@ -62,28 +68,32 @@ cases =
     ∷ sweeps 300 (λ f. checking f 1 (hex "00")) 16 (0 ∷ run 4 299)
     ∷ sweeps 300 (λ f. checking f 2 (hex "00")) 16 (0 ∷ run 4 299)
     ∷ sweeps 300 (λ f. checking f 3 (hex "00")) 16 (0 ∷ run 5 299)
-    ∷ sweeps 300 (λ f. checking f 4 (hex "00")) 1 (run 1 4)
+    ∷ sweeps 300 (λ f. checking f 4 (hex "00")) 0 (2 ∷ [])
+    ∷ sweeps 300 (λ f. checking f 4 (hex "00")) 3 (1 ∷ 3 ∷ 4 ∷ [])
     ∷ sweeps 300 (λ f. checking f 4 (hex "00")) 16 (0 ∷ run 5 299)
-    ∷ sweeps 300 (λ e. checking 1 e []) 3 (1 ∷ 2 ∷ 3 ∷ [])
-    ∷ sweeps 300 (λ e. checking 2 e (hex "00")) 0 (1 ∷ 2 ∷ 3 ∷ [])
-    ∷ sweeps 300 (λ e. checking 2 e (hex "00")) 1 (0 ∷ run 4 299)
-    ∷ sweeps 300 (λ e. checking 3 e noTags) 0 (1 ∷ 2 ∷ 3 ∷ [])
-    ∷ sweeps 300 (λ e. checking 4 e []) 3 (3 ∷ [])
+    ∷ sweeps 300 (λ f. checking f 5 (hex "00")) 1 (run 1 4)
+    ∷ sweeps 300 (λ f. checking f 5 (hex "00")) 16 (0 ∷ run 5 299)
+    ∷ sweeps 300 (λ e. checking 1 e []) 3 (run 1 4)
+    ∷ sweeps 300 (λ e. checking 2 e (hex "00")) 0 (run 1 4)
+    ∷ sweeps 300 (λ e. checking 2 e (hex "00")) 1 (0 ∷ run 5 299)
+    ∷ sweeps 300 (λ e. checking 3 e noTags) 0 (run 1 4)
+    ∷ sweeps 300 (λ e. checking 4 e []) 3 (3 ∷ 4 ∷ [])
     ∷ sweeps 300 (λ e. checking 4 e []) 16 (1 ∷ 2 ∷ [])
-    ∷ sweeps 300 (λ e. checking 4 e []) 1 (0 ∷ run 4 299)
+    ∷ sweeps 300 (λ e. checking 4 e []) 1 (0 ∷ run 5 299)
     -- the same of every call
     ∷ fills 0 1 sku (old ∷ []) (refuses 16 0) (old ∷ [])
-    ∷ fills 2 4 sku (old ∷ []) (refuses 1 0) (old ∷ [])
+    ∷ fills 2 5 sku (old ∷ []) (refuses 1 0) (old ∷ [])
     ∷ finds 4 1 sku 0 (misses 16 0)
-    ∷ finds 4 4 sku 0 (misses 1 0)
+    ∷ finds 4 5 sku 0 (misses 1 0)
     ∷ finds 2 0 sku 0 (misses 1 0)
     ∷ values 4 1 sku 0 (nowhere 16 0) []
-    ∷ values 4 4 sku 0 (nowhere 1 0) []
+    ∷ values 4 5 sku 0 (nowhere 1 0) []
     ∷ values 2 0 sku 0 (nowhere 1 0) []
     ∷ steps 4 1 0 sku (misses 16 0) 0
     ∷ steps 4 0 0 sku (misses 1 0) 0
-    ∷ steps 2 4 5 sku (misses 1 0) 5
-    ∷ entries 2 4 sku []
+    ∷ steps 2 5 5 sku (misses 1 0) 5
+    ∷ entries 2 5 sku []
+    ∷ entries 2 4 sku (skuEntry ∷ [])
     -- ---- 2: one byte too many, and before 3
     ∷ checks 1 1 (replicate 65537 0) (refuses 2 0)
     ∷ checks 1 1 (replicate 65536 0) (refuses 3 0)
@@ -91,12 +101,13 @@ cases =
     ∷ fills 2 2 sku [] (refuses 12 0) []
     ∷ fills 2 2 sku (old ∷ []) (Accepted 1) (skuEntry ∷ [])
     ∷ fills 2 3 sku (old ∷ older ∷ []) (Accepted 1) (skuEntry ∷ older ∷ [])
+    ∷ fills 2 4 sku (old ∷ older ∷ []) (Accepted 1) (skuEntry ∷ older ∷ [])
     ∷ fills 2 1 sku (old ∷ older ∷ []) (Accepted 1) (skuEntry ∷ older ∷ [])
     ∷ fills 2 1 sku (old ∷ older ∷ old ∷ []) (Accepted 1) (skuEntry ∷ older ∷ old ∷ [])
     ∷ fills 2 1 (hex "00") (old ∷ []) (Accepted 0) (old ∷ [])
     ∷ fills 3 1 noTags [] (Accepted 0) []
     ∷ fills 2 1 (hex "01 01 41 00 01 01 42 00 00") (old ∷ []) (refuses 12 0) (old ∷ [])
-    ∷ fills 2 1 (hex "01 01 41 00 01 01 42 00 00") (old ∷ older ∷ []) (Accepted 2) (keyed 0x01 513 0 2 1 4 0 ∷ keyed 0x01 513 4 6 1 8 0 ∷ [])
+    ∷ fills 2 1 (hex "01 01 41 00 01 01 42 00 00") (old ∷ older ∷ []) (Accepted 2) (keyed 0x01 513 0 4 2 1 4 0 ∷ keyed 0x01 513 4 4 6 1 8 0 ∷ [])
     ∷ fills 2 2 threeBytes (old ∷ older ∷ []) (refuses 7 0) (old ∷ older ∷ [])
     -- ---- what an answer says: number, place, count, part and entries. Readings
     ∷ says Plain (0 ∷ [])

@@ -59,6 +59,10 @@ cases =
     ∷ unedits 1 3 withBlock 5 (hex "01 02 03 04 05 06 07") 40 (refusal 7 19)
     ∷ unedits 2 3 skuAndFeh 1 (text "B") 0 (refusal 7 8)
     ∷ unedits 3 3 batchAndPool 0 (hex "00 00 00 00 00 00 10 27") 30 (refusal 7 3)
+    -- and so does edition 4
+    ∷ edits 1 4 withBlock 5 (hex "01 02 03 04 05 06 07 08") (replicate 33 7) (Wrote 33) (boardWith 17 (hex "01 02 03 04 05 06 07 08") 0x61A5)
+    ∷ edits 2 4 skuAndFeh 1 (hex "09 08 07 06") (replicate 20 7) (Wrote 18) (hex "01 03 53 4B 55 02 41 37 FE 80 01 41 04 09 08 07 06 00 FF FF")
+    ∷ edits 3 4 batchAndPool 0 (hex "01 02 63 63 05 06 0F 27") (replicate 19 7) (Wrote 19) (hex "56 02 13 80 01 02 63 63 05 06 0F 27 01 04 41 C2 C3 44 AF")
     -- later editions read what edition 1 has edited
     ∷ checks 1 3 (fbossOf (hex "01 01 41 08 01 05 09 01 00 0A 01 01 0B 03 58 59 5A 11 08 02 00 00 00 00 01 00 08") 0xF626 ++ hex "FF") (Accepted 6)
     ∷ checks 1 2 (fbossOf (hex "01 01 41 08 01 05 09 01 00 0A 01 01 0B 03 58 59 5A 11 08 02 00 00 00 00 01 00 08") 0xF626 ++ hex "FF") (Accepted 6)
@@ -70,7 +74,7 @@ cases =
     ∷ unedits 4 9 [] 0 [] 3 (refusal 1 0)
     ∷ unedits 4 2 [] 0 [] 3 (refusal 16 0)
     ∷ unedits 2 0 sku 0 [] 3 (refusal 1 0)
-    ∷ unedits 2 4 sku 0 [] 3 (refusal 1 0)
+    ∷ unedits 2 5 sku 0 [] 3 (refusal 1 0)
     ∷ unedits 1 1 [] 0 [] 65537 (refusal 2 0)
     ∷ unedits 1 1 [] 0 [] 65536 (refusal 3 0)
     ∷ unedits 1 1 (replicate 65537 0) 0 [] 0 (refusal 2 0)

@@ -27,35 +27,35 @@ everyCode =
 -- its first 16 records, alike in every edition
 abbrev pub firstSixteen : List Entry
 firstSixteen =
-    bare 1 257 4 6 8 Text
-    ∷ bare 2 258 14 16 6 Text
-    ∷ bare 3 259 22 24 8 Text
-    ∷ bare 4 260 32 34 12 Text
-    ∷ bare 5 261 46 48 12 Text
-    ∷ bare 6 262 60 62 0 Text
-    ∷ bare 7 263 62 64 2 Text
-    ∷ bare 8 264 66 68 1 (Number 5)
-    ∷ bare 9 265 69 71 1 (Number 0)
-    ∷ bare 10 266 72 74 1 (Number 255)
-    ∷ bare 11 267 75 77 2 Text
-    ∷ bare 12 268 79 81 1 Text
-    ∷ bare 13 269 82 84 8 (Dated (date 2023 12 31))
-    ∷ bare 14 270 92 94 1 Text
-    ∷ bare 15 271 95 97 2 Text
-    ∷ bare 16 272 99 101 3 Text
+    bare 1 257 4 10 6 8 Text
+    ∷ bare 2 258 14 8 16 6 Text
+    ∷ bare 3 259 22 10 24 8 Text
+    ∷ bare 4 260 32 14 34 12 Text
+    ∷ bare 5 261 46 14 48 12 Text
+    ∷ bare 6 262 60 2 62 0 Text
+    ∷ bare 7 263 62 4 64 2 Text
+    ∷ bare 8 264 66 3 68 1 (Number 5)
+    ∷ bare 9 265 69 3 71 1 (Number 0)
+    ∷ bare 10 266 72 3 74 1 (Number 255)
+    ∷ bare 11 267 75 4 77 2 Text
+    ∷ bare 12 268 79 3 81 1 Text
+    ∷ bare 13 269 82 10 84 8 (Dated (date 2023 12 31))
+    ∷ bare 14 270 92 3 94 1 Text
+    ∷ bare 15 271 95 4 97 2 Text
+    ∷ bare 16 272 99 5 101 3 Text
     ∷ []
 
 -- the last four, as edition 1 lists them, which does not name them
 abbrev pub fourUnnamed : List Entry
-fourUnnamed = bare 17 0 104 106 8 Plain ∷ bare 18 0 114 116 8 Plain ∷ bare 19 0 124 126 8 Plain ∷ bare 20 0 134 136 8 Plain ∷ []
+fourUnnamed = bare 17 0 104 10 106 8 Plain ∷ bare 18 0 114 10 116 8 Plain ∷ bare 19 0 124 10 126 8 Plain ∷ bare 20 0 134 10 136 8 Plain ∷ []
 
 -- and as editions 2 and 3 list them
 abbrev pub fourBlocks : List Entry
 fourBlocks =
-    bare 17 273 104 106 8 (Addresses 0x0123456789AB 258)
-    ∷ bare 18 274 114 116 8 (Addresses 0xFFFFFFFFFFFF 65535)
-    ∷ bare 19 275 124 126 8 (Addresses 0x000000000001 0)
-    ∷ bare 20 276 134 136 8 (Addresses 0x020000000000 10)
+    bare 17 273 104 10 106 8 (Addresses 0x0123456789AB 258)
+    ∷ bare 18 274 114 10 116 8 (Addresses 0xFFFFFFFFFFFF 65535)
+    ∷ bare 19 275 124 10 126 8 (Addresses 0x000000000001 0)
+    ∷ bare 20 276 134 10 136 8 (Addresses 0x020000000000 10)
     ∷ []
 
 -- an image of one entry, of this code and value, with this check stored
@@ -250,26 +250,28 @@ cases =
     ∷ sweeps 300 (λ c. naming 1 1 c) 13 (run 1 16)
     ∷ sweeps 300 (λ c. naming 1 2 c) 13 (run 1 20)
     ∷ sweeps 300 (λ c. naming 1 3 c) 13 (run 1 20)
+    ∷ sweeps 300 (λ c. naming 1 4 c) 13 (run 1 20)
     ∷ sweeps 30 (λ c. naming 1 1 c) 14 (0 ∷ run 17 29)
     -- ---- the records of every code, in every edition
     ∷ lists 1 1 everyCode (firstSixteen ++ fourUnnamed)
     ∷ lists 1 2 everyCode (firstSixteen ++ fourBlocks)
     ∷ lists 1 3 everyCode (firstSixteen ++ fourBlocks)
-    ∷ finds 1 2 everyCode 19 (Found (bare 20 276 134 136 8 (Addresses 0x020000000000 10)))
+    ∷ lists 1 4 everyCode (firstSixteen ++ fourBlocks)
+    ∷ finds 1 2 everyCode 19 (Found (bare 20 276 134 10 136 8 (Addresses 0x020000000000 10)))
     -- year, month and day of a date
-    ∷ finds 1 1 (boardWith 13 (text "00040229") 0x9275) 5 (Found (bare 13 269 19 21 8 (Dated (date 4 2 29))))
-    ∷ finds 1 3 (boardWith 13 (text "20231110") 0x1AD9) 5 (Found (bare 13 269 19 21 8 (Dated (date 2023 11 10))))
+    ∷ finds 1 1 (boardWith 13 (text "00040229") 0x9275) 5 (Found (bare 13 269 19 10 21 8 (Dated (date 4 2 29))))
+    ∷ finds 1 3 (boardWith 13 (text "20231110") 0x1AD9) 5 (Found (bare 13 269 19 10 21 8 (Dated (date 2023 11 10))))
     -- codes that no edition names, with any value
     ∷ lists 1 2 (fbossOf (five ++ hex "15 00 F9 02 00 FF FB 01 FA FE 01 02") 0x3DB3)
-    (bare 1 257 4 6 1 Text ∷ bare 8 264 7 9 1 (Number 5) ∷ bare 9 265 10 12 1 (Number 0) ∷ bare 10 266 13 15 1 (Number 1) ∷ bare 11 267 16 18 1 Text
-    ∷ bare 21 0 19 21 0 Plain ∷ bare 249 0 21 23 2 Plain ∷ bare 251 0 25 27 1 Plain ∷ bare 254 0 28 30 1 Plain ∷ [])
+    (bare 1 257 4 3 6 1 Text ∷ bare 8 264 7 3 9 1 (Number 5) ∷ bare 9 265 10 3 12 1 (Number 0) ∷ bare 10 266 13 3 15 1 (Number 1) ∷ bare 11 267 16 3 18 1 Text
+    ∷ bare 21 0 19 2 21 0 Plain ∷ bare 249 0 21 4 23 2 Plain ∷ bare 251 0 25 3 27 1 Plain ∷ bare 254 0 28 3 30 1 Plain ∷ [])
     -- entry, value and step: the first, in the middle, the last and past it
     ∷ checks 1 2 withBlock (Accepted 6)
-    ∷ finds 1 1 withBlock 0 (Found (bare 1 257 4 6 1 Text))
-    ∷ finds 1 1 withBlock 3 (Found (bare 10 266 13 15 1 (Number 1)))
-    ∷ finds 1 1 withBlock 5 (Found (bare 17 0 19 21 8 Plain))
-    ∷ finds 1 2 withBlock 5 (Found (bare 17 273 19 21 8 (Addresses 0x020000000001 8)))
-    ∷ finds 1 3 withBlock 5 (Found (bare 17 273 19 21 8 (Addresses 0x020000000001 8)))
+    ∷ finds 1 1 withBlock 0 (Found (bare 1 257 4 3 6 1 Text))
+    ∷ finds 1 1 withBlock 3 (Found (bare 10 266 13 3 15 1 (Number 1)))
+    ∷ finds 1 1 withBlock 5 (Found (bare 17 0 19 10 21 8 Plain))
+    ∷ finds 1 2 withBlock 5 (Found (bare 17 273 19 10 21 8 (Addresses 0x020000000001 8)))
+    ∷ finds 1 3 withBlock 5 (Found (bare 17 273 19 10 21 8 (Addresses 0x020000000001 8)))
     ∷ finds 1 1 withBlock 6 (misses 13 0)
     ∷ finds 1 2 withBlock 6 (misses 13 0)
     ∷ finds 1 2 withBlock 4294967296 (misses 13 0)
@@ -280,10 +282,10 @@ cases =
     ∷ values 1 2 withBlock 5 (At (partAt 21 8)) (hex "02 00 00 00 00 01 00 08")
     ∷ values 1 1 withBlock 6 (nowhere 13 0) []
     ∷ values 1 2 (begun (hex "01 00 FF")) 0 (nowhere 6 6) []
-    ∷ steps 1 1 0 withBlock (Found (bare 1 257 4 6 1 Text)) 1
-    ∷ steps 1 2 3 withBlock (Found (bare 10 266 13 15 1 (Number 1))) 4
-    ∷ steps 1 1 5 withBlock (Found (bare 17 0 19 21 8 Plain)) 6
-    ∷ steps 1 2 5 withBlock (Found (bare 17 273 19 21 8 (Addresses 0x020000000001 8))) 6
+    ∷ steps 1 1 0 withBlock (Found (bare 1 257 4 3 6 1 Text)) 1
+    ∷ steps 1 2 3 withBlock (Found (bare 10 266 13 3 15 1 (Number 1))) 4
+    ∷ steps 1 1 5 withBlock (Found (bare 17 0 19 10 21 8 Plain)) 6
+    ∷ steps 1 2 5 withBlock (Found (bare 17 273 19 10 21 8 (Addresses 0x020000000001 8))) 6
     ∷ steps 1 2 6 withBlock (misses 13 0) 6
     ∷ steps 1 2 7 withBlock (misses 13 0) 7
     ∷ steps 1 2 3 (begun (hex "01 00 FF")) (misses 6 6) 3

@@ -169,9 +169,9 @@ cases =
     ∷ checks 4 3 (headed 257 (hex "21 FF" ++ replicate 255 0x41)) (refuses 5 268)
     ∷ checks 4 3 (headed 256 (hex "21 FF" ++ replicate 255 0x41)) (refuses 5 11)
     -- FBOSS's end is an entry like any other, and the walk ends at the first FE 04
-    ∷ lists 4 3 (onieOf (hex "FA 02 FE 04") (hex "C4 AC EC D3")) (bare 0xFA 0 11 13 2 Plain ∷ [])
-    ∷ lists 4 3 (onieOf (hex "FB 00 01 01 FE") (hex "FE 8D 90 BE")) (bare 0xFB 0 11 13 0 Plain ∷ bare 0x01 0 13 15 1 Plain ∷ [])
-    ∷ lists 4 3 (onieOf (hex "FA 02 FE 04") (hex "C4 AC EC D3") ++ hex "21 01 41 FE 04 00 00 00 00") (bare 0xFA 0 11 13 2 Plain ∷ [])
+    ∷ lists 4 3 (onieOf (hex "FA 02 FE 04") (hex "C4 AC EC D3")) (bare 0xFA 0 11 4 13 2 Plain ∷ [])
+    ∷ lists 4 3 (onieOf (hex "FB 00 01 01 FE") (hex "FE 8D 90 BE")) (bare 0xFB 0 11 2 13 0 Plain ∷ bare 0x01 0 13 3 15 1 Plain ∷ [])
+    ∷ lists 4 3 (onieOf (hex "FA 02 FE 04") (hex "C4 AC EC D3") ++ hex "21 01 41 FE 04 00 00 00 00") (bare 0xFA 0 11 4 13 2 Plain ∷ [])
     -- ---- 10: two bytes after FEh. High byte first, over all up to and including FE 04, with the final change; each byte of it
     ∷ checks 4 3 (onieOf (hex "21 01 41") (hex "D5 F1 23 CB")) (Accepted 1)
     ∷ checks 4 3 (onieOf (hex "21 01 41") (hex "D4 F1 23 CB")) (refuses 10 16)
@@ -321,6 +321,7 @@ cases =
     ∷ checks 4 3 (onieOf (hex "22 01 7F 21 00 21 00") (hex "0A 13 32 FE")) (refuses 7 11)
     -- ---- the codes that edition 3 names: 13, and 14 for any other
     ∷ sweeps 300 (λ c. naming 4 3 c) 13 (run 0x21 0x25 ++ run 0x2A 0x2D ++ (0xFD ∷ []))
+    ∷ sweeps 300 (λ c. naming 4 4 c) 13 (run 0x21 0x25 ++ run 0x2A 0x2D ++ (0xFD ∷ []))
     ∷ sweeps 300 (λ c. naming 4 3 c) 14 (run 0x00 0x20 ++ run 0x26 0x29 ++ run 0x2E 0xFC ++ run 0xFE 299)
     ∷ []
 

@@ -29,35 +29,35 @@ everyCode =
 -- its records
 abbrev pub everyRecord : List Entry
 everyRecord =
-    bare 0x21 1057 11 13 6 Text
-    ∷ bare 0x22 1058 19 21 3 Text
-    ∷ bare 0x23 1059 24 26 2 Text
-    ∷ bare 0x24 1060 28 30 6 (Addresses 0x0123456789AB 1)
-    ∷ bare 0x25 1061 36 38 19 (Timed (date 2023 12 31) (time 23 59 58))
-    ∷ bare 0x26 0 57 59 1 Plain
-    ∷ bare 0x27 0 60 62 2 Plain
-    ∷ bare 0x28 0 64 66 0 Plain
-    ∷ bare 0x29 0 66 68 1 Plain
-    ∷ bare 0x2A 1066 69 71 2 (Number 0x1234)
-    ∷ bare 0x2B 1067 73 75 0 Text
-    ∷ bare 0x2C 1068 75 77 2 Text
-    ∷ bare 0x2D 1069 79 81 1 Text
-    ∷ bare 0x2E 0 82 84 1 Plain
-    ∷ bare 0x2F 0 85 87 0 Plain
-    ∷ bare 0xFD 1277 87 89 4 Plain
-    ∷ bare 0x20 0 93 95 1 Plain
-    ∷ bare 0xFC 0 96 98 1 Plain
-    ∷ bare 0xFD 1277 99 101 6 Plain
+    bare 0x21 1057 11 8 13 6 Text
+    ∷ bare 0x22 1058 19 5 21 3 Text
+    ∷ bare 0x23 1059 24 4 26 2 Text
+    ∷ bare 0x24 1060 28 8 30 6 (Addresses 0x0123456789AB 1)
+    ∷ bare 0x25 1061 36 21 38 19 (Timed (date 2023 12 31) (time 23 59 58))
+    ∷ bare 0x26 0 57 3 59 1 Plain
+    ∷ bare 0x27 0 60 4 62 2 Plain
+    ∷ bare 0x28 0 64 2 66 0 Plain
+    ∷ bare 0x29 0 66 3 68 1 Plain
+    ∷ bare 0x2A 1066 69 4 71 2 (Number 0x1234)
+    ∷ bare 0x2B 1067 73 2 75 0 Text
+    ∷ bare 0x2C 1068 75 4 77 2 Text
+    ∷ bare 0x2D 1069 79 3 81 1 Text
+    ∷ bare 0x2E 0 82 3 84 1 Plain
+    ∷ bare 0x2F 0 85 2 87 0 Plain
+    ∷ bare 0xFD 1277 87 6 89 4 Plain
+    ∷ bare 0x20 0 93 3 95 1 Plain
+    ∷ bare 0xFC 0 96 3 98 1 Plain
+    ∷ bare 0xFD 1277 99 8 101 6 Plain
     ∷ []
 
 -- the records of the board
 abbrev pub boardRecords : List Entry
 boardRecords =
-    bare 0x21 1057 11 13 1 Text
-    ∷ bare 0x2A 1066 14 16 2 (Number 3)
-    ∷ bare 0x99 0 18 20 2 Plain
-    ∷ bare 0xFD 1277 22 24 4 Plain
-    ∷ bare 0xFD 1277 28 30 4 Plain
+    bare 0x21 1057 11 3 13 1 Text
+    ∷ bare 0x2A 1066 14 4 16 2 (Number 3)
+    ∷ bare 0x99 0 18 4 20 2 Plain
+    ∷ bare 0xFD 1277 22 6 24 4 Plain
+    ∷ bare 0xFD 1277 28 6 30 4 Plain
     ∷ []
 
 -- the values of the longest image, and its fields with n bytes for the last one
@@ -83,17 +83,18 @@ cases =
     ∷ checks 4 1 noEntries (refuses 16 0)
     ∷ checks 4 2 noEntries (refuses 16 0)
     ∷ checks 4 3 noEntries (Accepted 0)
-    ∷ checks 4 4 noEntries (refuses 1 0)
+    ∷ checks 4 4 noEntries (Accepted 0)
+    ∷ checks 4 5 noEntries (refuses 1 0)
     ∷ checks 4 9 noEntries (refuses 1 0)
-    ∷ sweeps 300 (λ e. checking 4 e noEntries) 0 (3 ∷ [])
+    ∷ sweeps 300 (λ e. checking 4 e noEntries) 0 (3 ∷ 4 ∷ [])
     ∷ sweeps 300 (λ e. checking 4 e noEntries) 16 (1 ∷ 2 ∷ [])
-    ∷ sweeps 300 (λ e. checking 4 e noEntries) 1 (0 ∷ run 4 299)
+    ∷ sweeps 300 (λ e. checking 4 e noEntries) 1 (0 ∷ run 5 299)
     ∷ sweeps 300 (λ f. checking f 3 noEntries) 0 (4 ∷ [])
     ∷ checks 4 2 (replicate 65537 0) (refuses 16 0)
     ∷ checks 4 3 (replicate 65537 0) (refuses 2 0)
     ∷ checks 4 3 (replicate 65536 0) (refuses 3 0)
     ∷ fills 4 2 board (old ∷ []) (refuses 16 0) (old ∷ [])
-    ∷ fills 4 4 board (old ∷ []) (refuses 1 0) (old ∷ [])
+    ∷ fills 4 5 board (old ∷ []) (refuses 1 0) (old ∷ [])
     ∷ entries 4 2 board []
     ∷ entries 4 9 board []
     ∷ finds 4 1 board 0 (misses 16 0)
@@ -101,11 +102,11 @@ cases =
     ∷ values 4 2 board 0 (nowhere 16 0) []
     ∷ values 4 9 board 0 (nowhere 1 0) []
     ∷ steps 4 2 3 board (misses 16 0) 3
-    ∷ steps 4 4 3 board (misses 1 0) 3
+    ∷ steps 4 5 3 board (misses 1 0) 3
     ∷ unwrites 4 1 (field 99 9 9 ∷ []) [] 3 (refusal 16 0)
     ∷ unwrites 4 2 [] [] 65537 (refusal 16 0)
     ∷ unwrites 4 0 (field 99 9 9 ∷ []) [] 3 (refusal 1 0)
-    ∷ unwrites 4 4 [] [] 3 (refusal 1 0)
+    ∷ unwrites 4 5 [] [] 3 (refusal 1 0)
     ∷ unwrites 4 3 [] [] 65537 (refusal 2 0)
     ∷ unedits 4 1 board 0 [] 3 (refusal 16 0)
     ∷ unedits 4 2 board 0 [] 65537 (refusal 16 0)
@@ -120,21 +121,22 @@ cases =
     ∷ strings 4 9 [] 0 (nowhere 16 0) []
     -- ---- records: every code, an address block with each byte in its place, a number high byte first
     ∷ lists 4 3 everyCode everyRecord
+    ∷ lists 4 4 everyCode everyRecord
     ∷ entries 4 3 board boardRecords
-    ∷ finds 4 3 (onieOf (hex "24 06 FF FE FD FC FB FA") (hex "11 19 EB 26")) 0 (Found (bare 0x24 1060 11 13 6 (Addresses 0xFFFEFDFCFBFA 1)))
-    ∷ finds 4 3 (onieOf (hex "24 06 00 00 00 00 00 01") (hex "CF 2D 16 48")) 0 (Found (bare 0x24 1060 11 13 6 (Addresses 1 1)))
-    ∷ finds 4 3 (onieOf (hex "2A 02 FF FE") (hex "D6 7D 61 9F")) 0 (Found (bare 0x2A 1066 11 13 2 (Number 65534)))
-    ∷ finds 4 3 (onieOf (hex "2A 02 01 00") (hex "0F 9E 5E D1")) 0 (Found (bare 0x2A 1066 11 13 2 (Number 256)))
+    ∷ finds 4 3 (onieOf (hex "24 06 FF FE FD FC FB FA") (hex "11 19 EB 26")) 0 (Found (bare 0x24 1060 11 8 13 6 (Addresses 0xFFFEFDFCFBFA 1)))
+    ∷ finds 4 3 (onieOf (hex "24 06 00 00 00 00 00 01") (hex "CF 2D 16 48")) 0 (Found (bare 0x24 1060 11 8 13 6 (Addresses 1 1)))
+    ∷ finds 4 3 (onieOf (hex "2A 02 FF FE") (hex "D6 7D 61 9F")) 0 (Found (bare 0x2A 1066 11 4 13 2 (Number 65534)))
+    ∷ finds 4 3 (onieOf (hex "2A 02 01 00") (hex "0F 9E 5E D1")) 0 (Found (bare 0x2A 1066 11 4 13 2 (Number 256)))
     -- the list: as many records as entries, more, or fewer (12)
     ∷ fills 4 3 board (old ∷ older ∷ old ∷ older ∷ old ∷ older ∷ []) (Accepted 5) (boardRecords ++ (older ∷ []))
     ∷ fills 4 3 board (old ∷ older ∷ old ∷ older ∷ []) (refuses 12 0) (old ∷ older ∷ old ∷ older ∷ [])
     ∷ fills 4 3 noEntries (old ∷ []) (Accepted 0) (old ∷ [])
     ∷ fills 4 3 (onieOf (hex "21 01 7F") (hex "FB 04 EB 51")) (old ∷ []) (refuses 7 11) (old ∷ [])
     -- entry, value and step: the first, in the middle, the last and past it; a refused image
-    ∷ finds 4 3 board 0 (Found (bare 0x21 1057 11 13 1 Text))
-    ∷ finds 4 3 (onieOf (hex "25 13" ++ text "01/02/0003 04:05:06") (hex "D2 04 35 0D")) 0 (Found (bare 0x25 1061 11 13 19 (Timed (date 3 1 2) (time 4 5 6))))
-    ∷ finds 4 3 board 2 (Found (bare 0x99 0 18 20 2 Plain))
-    ∷ finds 4 3 board 4 (Found (bare 0xFD 1277 28 30 4 Plain))
+    ∷ finds 4 3 board 0 (Found (bare 0x21 1057 11 3 13 1 Text))
+    ∷ finds 4 3 (onieOf (hex "25 13" ++ text "01/02/0003 04:05:06") (hex "D2 04 35 0D")) 0 (Found (bare 0x25 1061 11 21 13 19 (Timed (date 3 1 2) (time 4 5 6))))
+    ∷ finds 4 3 board 2 (Found (bare 0x99 0 18 4 20 2 Plain))
+    ∷ finds 4 3 board 4 (Found (bare 0xFD 1277 28 6 30 4 Plain))
     ∷ finds 4 3 board 5 (misses 13 0)
     ∷ finds 4 3 noEntries 0 (misses 13 0)
     ∷ finds 4 3 (headed 7 (hex "FE 04 00 00 00 00 00")) 0 (misses 5 9)
@@ -144,9 +146,10 @@ cases =
     ∷ values 4 3 board 4 (At (partAt 30 4)) (hex "05 06 07 08")
     ∷ values 4 3 board 5 (nowhere 13 0) []
     ∷ values 4 3 (headed 7 (hex "FE 04 00 00 00 00 00")) 0 (nowhere 5 9) []
-    ∷ steps 4 3 0 board (Found (bare 0x21 1057 11 13 1 Text)) 1
-    ∷ steps 4 3 1 board (Found (bare 0x2A 1066 14 16 2 (Number 3))) 2
-    ∷ steps 4 3 4 board (Found (bare 0xFD 1277 28 30 4 Plain)) 5
+    ∷ steps 4 3 0 board (Found (bare 0x21 1057 11 3 13 1 Text)) 1
+    ∷ steps 4 4 1 board (Found (bare 0x2A 1066 14 4 16 2 (Number 3))) 2
+    ∷ steps 4 3 1 board (Found (bare 0x2A 1066 14 4 16 2 (Number 3))) 2
+    ∷ steps 4 3 4 board (Found (bare 0xFD 1277 28 6 30 4 Plain)) 5
     ∷ steps 4 3 5 board (misses 13 0) 5
     ∷ steps 4 3 2 (headed 1 (hex "00")) (misses 6 11) 2
     -- ---- writes. No fields: one byte more than needed, just enough, one less

@@ -22,16 +22,16 @@ tags =
 -- its first five records, alike in every edition
 abbrev pub firstFive : List Entry
 firstFive =
-    bare 0x10 784 3 4 1 (Numbered (stringNumber 2))
-    ∷ bare 0x11 785 5 6 1 (Tests 0x3B 3)
-    ∷ bare 0x60 864 7 8 6 (Addresses 0x0200000001FF 1)
-    ∷ bare 0x61 865 14 15 6 (Identified (named 0 1 2 3 4 5))
-    ∷ bare 0x62 866 21 22 6 (Identified (named 1 0 128 99 6 7))
+    bare 0x10 784 3 2 4 1 (Numbered (stringNumber 2))
+    ∷ bare 0x11 785 5 2 6 1 (Tests 0x3B 3)
+    ∷ bare 0x60 864 7 7 8 6 (Addresses 0x0200000001FF 1)
+    ∷ bare 0x61 865 14 7 15 6 (Identified (named 0 1 2 3 4 5))
+    ∷ bare 0x62 866 21 7 22 6 (Identified (named 1 0 128 99 6 7))
     ∷ []
 
 -- its last two, alike in every edition
 abbrev pub lastTwo : List Entry
-lastTwo = bare 0x25 0 46 47 2 Plain ∷ bare 0x01 769 49 51 4 Plain ∷ []
+lastTwo = bare 0x25 0 46 3 47 2 Plain ∷ bare 0x01 769 49 6 51 4 Plain ∷ []
 
 -- a number below 65,536 as two bytes, low byte first, after six zeros: the value of an identity with that batch number
 abbrev pub batched : ℕ → List ℕ
@@ -57,7 +57,7 @@ cases =
     ∷ sweeps 10 (λ n. checking 3 1 (0x56 ∷ 0x02 ∷ n ∷ hex "00 00 00")) 10 (4 ∷ [])
     ∷ sweeps 10 (λ n. checking 3 1 (0x56 ∷ 0x02 ∷ n ∷ hex "00 00 00")) 6 (5 ∷ 6 ∷ [])
     -- the longest: L 255, a pool of 249 bytes; of 250 there is none in an image of 255 bytes
-    ∷ finds 3 1 (hex "56 02 FF 01 F9" ++ replicate 249 0xC1 ++ hex "13") 0 (Found (bare 0x01 769 3 5 249 Plain))
+    ∷ finds 3 1 (hex "56 02 FF 01 F9" ++ replicate 249 0xC1 ++ hex "13") 0 (Found (bare 0x01 769 3 251 5 249 Plain))
     ∷ alike 3 (hex "56 02 FF 01 FA" ++ replicate 250 0xC1) (refuses 5 3)
     ∷ alike 3 (hex "56 02 FF" ++ replicate 251 0x00) (refuses 5 2)
     -- ---- 10: at L - 1; bytes from L on are not looked at; after the frames, before 7 and 8
@@ -154,51 +154,54 @@ cases =
     ∷ sweeps 300 (λ c. naming 3 1 c) 13 (0x01 ∷ 0x10 ∷ 0x11 ∷ 0x60 ∷ 0x61 ∷ 0x62 ∷ [])
     ∷ sweeps 300 (λ c. naming 3 2 c) 13 (0x01 ∷ 0x10 ∷ 0x11 ∷ 0x60 ∷ 0x61 ∷ 0x62 ∷ 0x80 ∷ 0x81 ∷ [])
     ∷ sweeps 300 (λ c. naming 3 3 c) 13 (0x01 ∷ 0x10 ∷ 0x11 ∷ 0x60 ∷ 0x61 ∷ 0x62 ∷ 0x80 ∷ 0x81 ∷ [])
+    ∷ sweeps 300 (λ c. naming 3 4 c) 13 (0x01 ∷ 0x10 ∷ 0x11 ∷ 0x60 ∷ 0x61 ∷ 0x62 ∷ 0x80 ∷ 0x81 ∷ [])
     ∷ sweeps 140 (λ c. naming 3 1 c) 14 (0x00 ∷ run 0x02 0x0F ++ run 0x12 0x5F ++ run 0x63 139)
     -- ---- the records of every tag, in every edition
-    ∷ lists 3 1 tags (firstFive ++ (bare 0x80 0 28 29 8 Plain ∷ bare 0x81 0 37 38 8 Plain ∷ lastTwo))
+    ∷ lists 3 1 tags (firstFive ++ (bare 0x80 0 28 9 29 8 Plain ∷ bare 0x81 0 37 9 38 8 Plain ∷ lastTwo))
     ∷ lists 3 2 tags
-    (firstFive ++ (bare 0x80 896 28 29 8 (Batched (named 0 1 2 3 4 5) 4660) ∷ bare 0x81 897 37 38 8 (Batched (named 1 1 99 0 0 0) 9999) ∷ lastTwo))
+    (firstFive ++ (bare 0x80 896 28 9 29 8 (Batched (named 0 1 2 3 4 5) 4660) ∷ bare 0x81 897 37 9 38 8 (Batched (named 1 1 99 0 0 0) 9999) ∷ lastTwo))
     ∷ lists 3 3 tags
-    (firstFive ++ (bare 0x80 896 28 29 8 (Batched (named 0 1 2 3 4 5) 4660) ∷ bare 0x81 897 37 38 8 (Batched (named 1 1 99 0 0 0) 9999) ∷ lastTwo))
-    ∷ entries 3 1 tags (firstFive ++ (bare 0x80 0 28 29 8 Plain ∷ bare 0x81 0 37 38 8 Plain ∷ lastTwo))
+    (firstFive ++ (bare 0x80 896 28 9 29 8 (Batched (named 0 1 2 3 4 5) 4660) ∷ bare 0x81 897 37 9 38 8 (Batched (named 1 1 99 0 0 0) 9999) ∷ lastTwo))
+    ∷ lists 3 4 tags
+    (firstFive ++ (bare 0x80 896 28 9 29 8 (Batched (named 0 1 2 3 4 5) 4660) ∷ bare 0x81 897 37 9 38 8 (Batched (named 1 1 99 0 0 0) 9999) ∷ lastTwo))
+    ∷ entries 3 1 tags (firstFive ++ (bare 0x80 0 28 9 29 8 Plain ∷ bare 0x81 0 37 9 38 8 Plain ∷ lastTwo))
     -- tags on both sides of the named ones: kind 0
     ∷ lists 3 2 (hex "56 02 19 02 01 09 0F 01 09 12 09 5F 09 09 09 09 09 63 09 09 09 09 09 09 0B")
-    (bare 0x02 0 3 5 1 Plain ∷ bare 0x0F 0 6 8 1 Plain ∷ bare 0x12 0 9 10 1 Plain ∷ bare 0x5F 0 11 12 5 Plain ∷ bare 0x63 0 17 18 6 Plain ∷ [])
-    ∷ lists 3 2 (hex "56 02 15 7F 09 09 09 09 09 09 09 82 09 09 09 09 09 09 09 09 86") (bare 0x7F 0 3 4 7 Plain ∷ bare 0x82 0 11 12 8 Plain ∷ [])
+    (bare 0x02 0 3 3 5 1 Plain ∷ bare 0x0F 0 6 3 8 1 Plain ∷ bare 0x12 0 9 2 10 1 Plain ∷ bare 0x5F 0 11 6 12 5 Plain ∷ bare 0x63 0 17 7 18 6 Plain ∷ [])
+    ∷ lists 3 2 (hex "56 02 15 7F 09 09 09 09 09 09 09 82 09 09 09 09 09 09 09 09 86") (bare 0x7F 0 3 8 4 7 Plain ∷ bare 0x82 0 11 9 12 8 Plain ∷ [])
     -- the tests passed: each of the low four bits, each of the high four, all and none
-    ∷ finds 3 1 (hex "56 02 06 11 00 A2") 0 (Found (bare 0x11 785 3 4 1 (Tests 0x00 0)))
-    ∷ finds 3 1 (hex "56 02 06 11 01 A5") 0 (Found (bare 0x11 785 3 4 1 (Tests 0x01 1)))
-    ∷ finds 3 2 (hex "56 02 06 11 02 AC") 0 (Found (bare 0x11 785 3 4 1 (Tests 0x02 1)))
-    ∷ finds 3 1 (hex "56 02 06 11 04 BE") 0 (Found (bare 0x11 785 3 4 1 (Tests 0x04 1)))
-    ∷ finds 3 2 (hex "56 02 06 11 08 9A") 0 (Found (bare 0x11 785 3 4 1 (Tests 0x08 1)))
-    ∷ finds 3 1 (hex "56 02 06 11 10 D2") 0 (Found (bare 0x11 785 3 4 1 (Tests 0x10 0)))
-    ∷ finds 3 2 (hex "56 02 06 11 20 42") 0 (Found (bare 0x11 785 3 4 1 (Tests 0x20 0)))
-    ∷ finds 3 1 (hex "56 02 06 11 40 65") 0 (Found (bare 0x11 785 3 4 1 (Tests 0x40 0)))
-    ∷ finds 3 2 (hex "56 02 06 11 80 2B") 0 (Found (bare 0x11 785 3 4 1 (Tests 0x80 0)))
-    ∷ finds 3 1 (hex "56 02 06 11 F0 7C") 0 (Found (bare 0x11 785 3 4 1 (Tests 0xF0 0)))
-    ∷ finds 3 2 (hex "56 02 06 11 0F 8F") 0 (Found (bare 0x11 785 3 4 1 (Tests 0x0F 4)))
-    ∷ finds 3 1 (hex "56 02 06 11 FF 51") 0 (Found (bare 0x11 785 3 4 1 (Tests 0xFF 4)))
-    ∷ finds 3 2 (hex "56 02 06 11 05 B9") 0 (Found (bare 0x11 785 3 4 1 (Tests 0x05 2)))
-    ∷ finds 3 1 (hex "56 02 06 11 0B 93") 0 (Found (bare 0x11 785 3 4 1 (Tests 0x0B 3)))
+    ∷ finds 3 1 (hex "56 02 06 11 00 A2") 0 (Found (bare 0x11 785 3 2 4 1 (Tests 0x00 0)))
+    ∷ finds 3 1 (hex "56 02 06 11 01 A5") 0 (Found (bare 0x11 785 3 2 4 1 (Tests 0x01 1)))
+    ∷ finds 3 2 (hex "56 02 06 11 02 AC") 0 (Found (bare 0x11 785 3 2 4 1 (Tests 0x02 1)))
+    ∷ finds 3 1 (hex "56 02 06 11 04 BE") 0 (Found (bare 0x11 785 3 2 4 1 (Tests 0x04 1)))
+    ∷ finds 3 2 (hex "56 02 06 11 08 9A") 0 (Found (bare 0x11 785 3 2 4 1 (Tests 0x08 1)))
+    ∷ finds 3 1 (hex "56 02 06 11 10 D2") 0 (Found (bare 0x11 785 3 2 4 1 (Tests 0x10 0)))
+    ∷ finds 3 2 (hex "56 02 06 11 20 42") 0 (Found (bare 0x11 785 3 2 4 1 (Tests 0x20 0)))
+    ∷ finds 3 1 (hex "56 02 06 11 40 65") 0 (Found (bare 0x11 785 3 2 4 1 (Tests 0x40 0)))
+    ∷ finds 3 2 (hex "56 02 06 11 80 2B") 0 (Found (bare 0x11 785 3 2 4 1 (Tests 0x80 0)))
+    ∷ finds 3 1 (hex "56 02 06 11 F0 7C") 0 (Found (bare 0x11 785 3 2 4 1 (Tests 0xF0 0)))
+    ∷ finds 3 2 (hex "56 02 06 11 0F 8F") 0 (Found (bare 0x11 785 3 2 4 1 (Tests 0x0F 4)))
+    ∷ finds 3 1 (hex "56 02 06 11 FF 51") 0 (Found (bare 0x11 785 3 2 4 1 (Tests 0xFF 4)))
+    ∷ finds 3 2 (hex "56 02 06 11 05 B9") 0 (Found (bare 0x11 785 3 2 4 1 (Tests 0x05 2)))
+    ∷ finds 3 1 (hex "56 02 06 11 0B 93") 0 (Found (bare 0x11 785 3 2 4 1 (Tests 0x0B 3)))
     -- a string number, an address block with each byte in its place, and an identity with batch
-    ∷ finds 3 2 (hex "56 02 06 10 FF 44") 0 (Found (bare 0x10 784 3 4 1 (Numbered (stringNumber 255))))
-    ∷ finds 3 1 (hex "56 02 0B 60 01 23 45 67 89 AB A6") 0 (Found (bare 0x60 864 3 4 6 (Addresses 0x0123456789AB 1)))
-    ∷ finds 3 2 (hex "56 02 0D 81 0A 0B 0C 0D 0E 0F 11 12 40") 0 (Found (bare 0x81 897 3 4 8 (Batched (named 10 11 12 13 14 15) 4625)))
+    ∷ finds 3 2 (hex "56 02 06 10 FF 44") 0 (Found (bare 0x10 784 3 2 4 1 (Numbered (stringNumber 255))))
+    ∷ finds 3 1 (hex "56 02 0B 60 01 23 45 67 89 AB A6") 0 (Found (bare 0x60 864 3 7 4 6 (Addresses 0x0123456789AB 1)))
+    ∷ finds 3 2 (hex "56 02 0D 81 0A 0B 0C 0D 0E 0F 11 12 40") 0 (Found (bare 0x81 897 3 9 4 8 (Batched (named 10 11 12 13 14 15) 4625)))
     -- entry, value and step: the first, in the middle, the last and past it
-    ∷ finds 3 1 tags 0 (Found (bare 0x10 784 3 4 1 (Numbered (stringNumber 2))))
-    ∷ finds 3 1 tags 5 (Found (bare 0x80 0 28 29 8 Plain))
-    ∷ finds 3 2 tags 5 (Found (bare 0x80 896 28 29 8 (Batched (named 0 1 2 3 4 5) 4660)))
-    ∷ finds 3 2 tags 8 (Found (bare 0x01 769 49 51 4 Plain))
+    ∷ finds 3 1 tags 0 (Found (bare 0x10 784 3 2 4 1 (Numbered (stringNumber 2))))
+    ∷ finds 3 1 tags 5 (Found (bare 0x80 0 28 9 29 8 Plain))
+    ∷ finds 3 2 tags 5 (Found (bare 0x80 896 28 9 29 8 (Batched (named 0 1 2 3 4 5) 4660)))
+    ∷ finds 3 2 tags 8 (Found (bare 0x01 769 49 6 51 4 Plain))
     ∷ finds 3 1 tags 9 (misses 13 0)
     ∷ finds 3 2 noTags 0 (misses 13 0)
     ∷ values 3 1 tags 0 (At (partAt 4 1)) (hex "02")
     ∷ values 3 2 tags 5 (At (partAt 29 8)) (hex "00 01 02 03 04 05 34 12")
     ∷ values 3 1 tags 8 (At (partAt 51 4)) (hex "41 C2 C3 44")
     ∷ values 3 1 tags 9 (nowhere 13 0) []
-    ∷ steps 3 1 0 tags (Found (bare 0x10 784 3 4 1 (Numbered (stringNumber 2)))) 1
-    ∷ steps 3 2 5 tags (Found (bare 0x80 896 28 29 8 (Batched (named 0 1 2 3 4 5) 4660))) 6
-    ∷ steps 3 1 8 tags (Found (bare 0x01 769 49 51 4 Plain)) 9
+    ∷ steps 3 1 0 tags (Found (bare 0x10 784 3 2 4 1 (Numbered (stringNumber 2)))) 1
+    ∷ steps 3 2 5 tags (Found (bare 0x80 896 28 9 29 8 (Batched (named 0 1 2 3 4 5) 4660))) 6
+    ∷ steps 3 1 8 tags (Found (bare 0x01 769 49 6 51 4 Plain)) 9
     ∷ steps 3 2 9 tags (misses 13 0) 9
     -- ---- strings; the unfinished tail is none (15)
     ∷ strings 3 1 tags 0 (At (partAt 51 2)) (hex "41 C2")
@@ -225,7 +228,7 @@ cases =
     ∷ strings 4 3 noTags 0 (nowhere 16 0) []
     ∷ strings 4 9 noTags 0 (nowhere 16 0) []
     ∷ strings 5 9 noTags 0 (nowhere 16 0) []
-    ∷ strings 3 4 noTags 0 (nowhere 1 0) []
+    ∷ strings 3 5 noTags 0 (nowhere 1 0) []
     ∷ strings 3 0 noTags 0 (nowhere 1 0) []
     ∷ strings 3 9 (hex "56") 0 (nowhere 1 0) []
     ∷ strings 3 1 (hex "56 02 05 00 00") 0 (nowhere 6 3) []

@@ -8,9 +8,10 @@ use Rattle.layout.specs.declared.Length.the-variants.{Reads, Fails}
 use Rattle.layout.specs.declared.Checked.the-variants.{Accepted}
 use Rattle.layout.specs.declared.Lookup.the-variants.{Found}
 use Rattle.layout.specs.declared.Located.the-variants.{At}
+use Rattle.layout.specs.declared.Made.the-variants.{Wrote}
 use Rattle.layout.specs.Bytes.{partAt}
 use Rattle.layout.proofs.Cases.{text, hex, run, keyOnly, sku, labRack, twoNames, threeBytes, keyed, refuses, misses, nowhere, checking, writing, writingKey, naming}
-use Rattle.layout.proofs.Cases.{Case, lengths, shortests, checks, alike, sweeps, lists, entries, finds, values, steps, given, wanted}
+use Rattle.layout.proofs.Cases.{Case, lengths, shortests, checks, alike, sweeps, lists, entries, finds, values, steps, edits, given, wanted}
 
 -- a 01h, an FEh whose key has its length in two bytes, and a 01h; an end by FFh, and a byte after it
 abbrev pub threeEntries : List ℕ
@@ -23,6 +24,14 @@ longValue = hex "01 01 41 81 00" ++ replicate 128 0x42 ++ hex "00"
 -- a 01h with a key of 130 bytes, whose length has three bytes where two would do
 abbrev pub longKey : List ℕ
 longKey = hex "01 80 81 02" ++ replicate 130 0x43 ++ hex "01 44 00"
+
+-- entries whose key's length and value's length have one, two, three and four bytes
+abbrev pub everyForm : List ℕ
+everyForm = hex "01 01 41 00 01 80 01 42 80 01 58 01 80 80 01 43 80 80 02 59 5A FE 80 80 80 01 44 80 80 80 04 01 02 03 04 00"
+
+-- the same after an edit of the second value, whose length is then in its shortest form
+abbrev pub everyFormEdited : List ℕ
+everyFormEdited = hex "01 01 41 00 01 80 01 42 02 56 57 01 80 80 01 43 80 80 02 59 5A FE 80 80 80 01 44 80 80 80 04 01 02 03 04 00"
 
 -- an FEh without a key, and a value of n bytes
 abbrev pub feh : ℕ → List ℕ
@@ -99,10 +108,16 @@ cases =
     ∷ alike 2 (hex "01 01 41 00 01 01 42 FF FF FF FF 00") (refuses 6 4)
     ∷ alike 2 (hex "01 01 41 FF FF FF 7F 00") (refuses 5 0)
     -- lengths of four bytes, of a key and of a value
-    ∷ finds 2 1 (hex "01 80 80 80 01 41 80 80 80 01 42 00") 0 (Found (keyed 0x01 513 0 5 1 10 1))
-    ∷ finds 2 2 (hex "FE 80 80 80 01 41 80 80 80 04 01 02 03 04 00") 0 (Found (keyed 0xFE 766 0 5 1 10 4))
-    ∷ finds 2 2 longValue 0 (Found (keyed 0x01 513 0 2 1 5 128))
-    ∷ finds 2 1 longKey 0 (Found (keyed 0x01 513 0 4 130 135 1))
+    ∷ finds 2 1 (hex "01 80 80 80 01 41 80 80 80 01 42 00") 0 (Found (keyed 0x01 513 0 11 5 1 10 1))
+    ∷ finds 2 2 (hex "FE 80 80 80 01 41 80 80 80 04 01 02 03 04 00") 0 (Found (keyed 0xFE 766 0 14 5 1 10 4))
+    ∷ finds 2 2 longValue 0 (Found (keyed 0x01 513 0 133 2 1 5 128))
+    ∷ finds 2 1 longKey 0 (Found (keyed 0x01 513 0 136 4 130 135 1))
+    -- the length of a whole frame has the length bytes as they are stored, in every edition, and after an edit by an older one
+    ∷ lists 2 4 everyForm (keyed 0x01 513 0 4 2 1 4 0 ∷ keyed 0x01 513 4 7 7 1 10 1 ∷ keyed 0x01 513 11 10 15 1 19 2 ∷ keyed 0xFE 766 21 14 26 1 31 4 ∷ [])
+    ∷ lists 2 1 everyForm (keyed 0x01 513 0 4 2 1 4 0 ∷ keyed 0x01 513 4 7 7 1 10 1 ∷ keyed 0x01 513 11 10 15 1 19 2 ∷ keyed 0xFE 0 21 14 26 1 31 4 ∷ [])
+    ∷ steps 2 4 2 everyForm (Found (keyed 0x01 513 11 10 15 1 19 2)) 3
+    ∷ edits 2 1 everyForm 1 (text "VW") (replicate 38 7) (Wrote 36) (everyFormEdited ++ hex "FF FF")
+    ∷ lists 2 4 (everyFormEdited ++ hex "FF FF") (keyed 0x01 513 0 4 2 1 4 0 ∷ keyed 0x01 513 4 7 7 1 9 2 ∷ keyed 0x01 513 11 10 15 1 19 2 ∷ keyed 0xFE 766 21 14 26 1 31 4 ∷ [])
     -- a frame before a rule
     ∷ alike 2 (hex "01 00 00 02 00") (refuses 6 3)
     ∷ alike 2 (hex "01 00 00 01") (refuses 5 3)
@@ -117,15 +132,15 @@ cases =
     ∷ sweeps 256 (λ b. checking 2 2 (keyOnly (0x41 ∷ b ∷ []))) 0 (run 0 255)
     -- a name with a dot, in each call
     ∷ alike 2 (labRack ++ hex "00") (Accepted 1)
-    ∷ lists 2 1 twoNames (keyed 0x01 513 0 2 8 11 2 ∷ keyed 0x01 513 13 16 2 20 1 ∷ [])
-    ∷ lists 2 2 twoNames (keyed 0x01 513 0 2 8 11 2 ∷ keyed 0x01 513 13 16 2 20 1 ∷ [])
-    ∷ lists 2 3 twoNames (keyed 0x01 513 0 2 8 11 2 ∷ keyed 0x01 513 13 16 2 20 1 ∷ [])
-    ∷ entries 2 2 twoNames (keyed 0x01 513 0 2 8 11 2 ∷ keyed 0x01 513 13 16 2 20 1 ∷ [])
-    ∷ finds 2 1 twoNames 0 (Found (keyed 0x01 513 0 2 8 11 2))
-    ∷ finds 2 2 twoNames 1 (Found (keyed 0x01 513 13 16 2 20 1))
+    ∷ lists 2 1 twoNames (keyed 0x01 513 0 13 2 8 11 2 ∷ keyed 0x01 513 13 8 16 2 20 1 ∷ [])
+    ∷ lists 2 2 twoNames (keyed 0x01 513 0 13 2 8 11 2 ∷ keyed 0x01 513 13 8 16 2 20 1 ∷ [])
+    ∷ lists 2 3 twoNames (keyed 0x01 513 0 13 2 8 11 2 ∷ keyed 0x01 513 13 8 16 2 20 1 ∷ [])
+    ∷ entries 2 2 twoNames (keyed 0x01 513 0 13 2 8 11 2 ∷ keyed 0x01 513 13 8 16 2 20 1 ∷ [])
+    ∷ finds 2 1 twoNames 0 (Found (keyed 0x01 513 0 13 2 8 11 2))
+    ∷ finds 2 2 twoNames 1 (Found (keyed 0x01 513 13 8 16 2 20 1))
     ∷ values 2 1 twoNames 0 (At (partAt 11 2)) (text "R2")
     ∷ values 2 2 twoNames 1 (At (partAt 20 1)) (text "A")
-    ∷ steps 2 1 0 twoNames (Found (keyed 0x01 513 0 2 8 11 2)) 1
+    ∷ steps 2 1 0 twoNames (Found (keyed 0x01 513 0 13 2 8 11 2)) 1
     -- 7: of a key that is written, at least one byte, each from the alphabet
     ∷ sweeps 2 (λ n. writingKey 1 (replicate n 0x41)) 7 (0 ∷ [])
     ∷ sweeps 256 (λ b. writingKey 1 (b ∷ [])) 12 keyBytes
@@ -170,21 +185,22 @@ cases =
     ∷ sweeps 300 (λ c. naming 2 1 c) 13 (0x01 ∷ [])
     ∷ sweeps 300 (λ c. naming 2 2 c) 13 (0x01 ∷ 0xFE ∷ [])
     ∷ sweeps 300 (λ c. naming 2 3 c) 13 (0x01 ∷ 0xFE ∷ [])
+    ∷ sweeps 300 (λ c. naming 2 4 c) 13 (0x01 ∷ 0xFE ∷ [])
     ∷ sweeps 300 (λ c. naming 2 2 c) 14 (0x00 ∷ run 0x02 0xFD ++ run 0xFF 299)
     -- ---- records, in every edition. An FEh has its key at its own place, an empty one too
-    ∷ lists 2 1 threeEntries (keyed 0x01 513 0 2 3 6 2 ∷ keyed 0xFE 0 8 11 1 13 4 ∷ keyed 0x01 513 17 19 1 22 0 ∷ [])
-    ∷ lists 2 2 threeEntries (keyed 0x01 513 0 2 3 6 2 ∷ keyed 0xFE 766 8 11 1 13 4 ∷ keyed 0x01 513 17 19 1 22 0 ∷ [])
-    ∷ lists 2 3 threeEntries (keyed 0x01 513 0 2 3 6 2 ∷ keyed 0xFE 766 8 11 1 13 4 ∷ keyed 0x01 513 17 19 1 22 0 ∷ [])
-    ∷ entries 2 1 threeEntries (keyed 0x01 513 0 2 3 6 2 ∷ keyed 0xFE 0 8 11 1 13 4 ∷ keyed 0x01 513 17 19 1 22 0 ∷ [])
-    ∷ entries 2 2 threeEntries (keyed 0x01 513 0 2 3 6 2 ∷ keyed 0xFE 766 8 11 1 13 4 ∷ keyed 0x01 513 17 19 1 22 0 ∷ [])
+    ∷ lists 2 1 threeEntries (keyed 0x01 513 0 8 2 3 6 2 ∷ keyed 0xFE 0 8 9 11 1 13 4 ∷ keyed 0x01 513 17 5 19 1 22 0 ∷ [])
+    ∷ lists 2 2 threeEntries (keyed 0x01 513 0 8 2 3 6 2 ∷ keyed 0xFE 766 8 9 11 1 13 4 ∷ keyed 0x01 513 17 5 19 1 22 0 ∷ [])
+    ∷ lists 2 3 threeEntries (keyed 0x01 513 0 8 2 3 6 2 ∷ keyed 0xFE 766 8 9 11 1 13 4 ∷ keyed 0x01 513 17 5 19 1 22 0 ∷ [])
+    ∷ entries 2 1 threeEntries (keyed 0x01 513 0 8 2 3 6 2 ∷ keyed 0xFE 0 8 9 11 1 13 4 ∷ keyed 0x01 513 17 5 19 1 22 0 ∷ [])
+    ∷ entries 2 2 threeEntries (keyed 0x01 513 0 8 2 3 6 2 ∷ keyed 0xFE 766 8 9 11 1 13 4 ∷ keyed 0x01 513 17 5 19 1 22 0 ∷ [])
     ∷ entries 2 2 threeBytes []
-    ∷ finds 2 1 (feh 4) 0 (Found (keyed 0xFE 0 0 2 0 3 4))
-    ∷ finds 2 2 (feh 4) 0 (Found (keyed 0xFE 766 0 2 0 3 4))
+    ∷ finds 2 1 (feh 4) 0 (Found (keyed 0xFE 0 0 7 2 0 3 4))
+    ∷ finds 2 2 (feh 4) 0 (Found (keyed 0xFE 766 0 7 2 0 3 4))
     -- entry, value and step: the first, in the middle, the last and past it
-    ∷ finds 2 1 threeEntries 0 (Found (keyed 0x01 513 0 2 3 6 2))
-    ∷ finds 2 1 threeEntries 1 (Found (keyed 0xFE 0 8 11 1 13 4))
-    ∷ finds 2 2 threeEntries 1 (Found (keyed 0xFE 766 8 11 1 13 4))
-    ∷ finds 2 2 threeEntries 2 (Found (keyed 0x01 513 17 19 1 22 0))
+    ∷ finds 2 1 threeEntries 0 (Found (keyed 0x01 513 0 8 2 3 6 2))
+    ∷ finds 2 1 threeEntries 1 (Found (keyed 0xFE 0 8 9 11 1 13 4))
+    ∷ finds 2 2 threeEntries 1 (Found (keyed 0xFE 766 8 9 11 1 13 4))
+    ∷ finds 2 2 threeEntries 2 (Found (keyed 0x01 513 17 5 19 1 22 0))
     ∷ finds 2 1 threeEntries 3 (misses 13 0)
     ∷ finds 2 2 threeEntries 3 (misses 13 0)
     ∷ values 2 2 sku 0 (At (partAt 6 2)) (text "A7")
@@ -193,10 +209,10 @@ cases =
     ∷ values 2 2 threeEntries 1 (At (partAt 13 4)) (hex "01 02 03 04")
     ∷ values 2 2 threeEntries 2 (At (partAt 22 0)) []
     ∷ values 2 2 threeBytes 0 (nowhere 7 0) []
-    ∷ steps 2 2 0 sku (Found (keyed 0x01 513 0 2 3 6 2)) 1
+    ∷ steps 2 2 0 sku (Found (keyed 0x01 513 0 8 2 3 6 2)) 1
     ∷ steps 2 2 1 sku (misses 13 0) 1
-    ∷ steps 2 1 1 threeEntries (Found (keyed 0xFE 0 8 11 1 13 4)) 2
-    ∷ steps 2 2 2 threeEntries (Found (keyed 0x01 513 17 19 1 22 0)) 3
+    ∷ steps 2 1 1 threeEntries (Found (keyed 0xFE 0 8 9 11 1 13 4)) 2
+    ∷ steps 2 2 2 threeEntries (Found (keyed 0x01 513 17 5 19 1 22 0)) 3
     ∷ steps 2 2 3 threeEntries (misses 13 0) 3
     ∷ steps 2 2 0 threeBytes (misses 7 0) 0
     ∷ []

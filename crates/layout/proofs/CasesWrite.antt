@@ -61,7 +61,7 @@ cases =
     ∷ unwrites 4 9 (field 99 9 9 ∷ []) [] 3 (refusal 1 0)
     ∷ unwrites 4 2 (field 99 9 9 ∷ []) [] 3 (refusal 16 0)
     ∷ unwrites 1 0 (field 99 9 9 ∷ []) [] 3 (refusal 1 0)
-    ∷ unwrites 2 4 (field 99 9 9 ∷ []) [] 3 (refusal 1 0)
+    ∷ unwrites 2 5 (field 99 9 9 ∷ []) [] 3 (refusal 1 0)
     ∷ unwrites 1 1 (field 99 9 9 ∷ []) [] 65536 (refusal 14 0)
     ∷ unwrites 1 1 (field 99 9 9 ∷ []) [] 65537 (refusal 2 0)
     -- ---- a refused write gives the number of the field: 14, 13, 9, 7, 8

@@ -40,6 +40,7 @@ entryOf S e p r =
       code = r .frame .code;
       kind = kind S e (r .frame .code);
       place = place p;
+      size = r .frame .size;
       key = keyPart (S .keyed) p r;
       value = partAt (p + r .frame .val) (r .frame .vlen);
       reading = readingBy S e (r .frame .code) (content r .value);

@@ -23,7 +23,7 @@ shape Onie = onie
 
 -- 01's term "edition": the editions of the header that are known
 abbrev pub knownEdition : ℕ → Bool
-knownEdition e = between 1 3 e
+knownEdition e = between 1 4 e
 
 -- a format, where the edition is known and has it: 1, then 16
 abbrev pub withEdition : ℕ → Format → Chosen

@@ -30,7 +30,7 @@ answering (Is room) have = if (leb (room .count) have) (λ _. Accepted (room .co
 answering (Isnt r) have = Refused r
 
 abbrev pub blankEntry : Entry
-blankEntry = record { code = 0; kind = 0; place = place 0; key = partAt 0 0; value = partAt 0 0; reading = Plain }
+blankEntry = record { code = 0; kind = 0; place = place 0; size = 0; key = partAt 0 0; value = partAt 0 0; reading = Plain }
 
 -- the cursor at p
 abbrev pub cursorAt : Format → ℕ → List ℕ → Bool → ℕ → ℕ → Cursor

@@ -96,6 +96,7 @@ fn blank() -> Entry
         code: 0,
         kind: 0,
         place: Place(0),
+        size: 0,
         key: Part {
             place: Place(0),
             len: 0,

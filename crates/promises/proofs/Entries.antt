@@ -38,20 +38,20 @@ use Rattle.promises.proofs.Refusals.{farthest}
 
 -- the places of a record are not beyond q
 pub record Inside (q : ℕ) (x : Entry) : Type 0 where
-  pub place : x .place .0 ≤ q
+  pub whole : x .place .0 + x .size ≤ q
   pub key : x .key .place .0 + x .key .len ≤ q
   pub value : x .value .place .0 + x .value .len ≤ q
 
 -- each record has at least one byte of its own
 tiles-long : (p : ℕ) (xs : List Entry) (q : ℕ) → Tiles p xs q → p + length xs ≤ q
 tiles-long p [] q t = omega arith
-tiles-long p (x ∷ xs) q t = let rest = tiles-long (x .value .place .0 + x .value .len) xs q (t .3) in omega arith
+tiles-long p (x ∷ xs) q t = let rest = tiles-long (p + x .size) xs q (t .4) in omega arith
 
 tiles-inside : (p : ℕ) (xs : List Entry) (q most : ℕ) → q ≤ most → Tiles p xs q → Each (Inside most) xs
 tiles-inside p [] q most le t = none
 tiles-inside p (x ∷ xs) q most le t =
-    let rest = tiles-long (x .value .place .0 + x .value .len) xs q (t .3) in
-    also {x = x} (record { place = omega arith; key = omega arith; value = omega arith }) (tiles-inside (x .value .place .0 + x .value .len) xs q most le (t .3))
+    let rest = tiles-long (p + x .size) xs q (t .4) in
+    also {x = x} (record { whole = omega arith; key = omega arith; value = omega arith }) (tiles-inside (p + x .size) xs q most le (t .4))
 
 -- ---- an accepted image
 

@@ -1,32 +1,40 @@
 -- Promise 2 holds.
 -- Assumes nothing.
-use Prim.Native.Nat.{ℕ, _+_, _-_}
+use Prim.Native.Nat.{ℕ, zero, suc, _+_, _-_}
 use mathlib.Core.Path.{_≡_, refl, ap, sym, _∙_}
-use mathlib.Core.List.{List, [], _∷_, _++_, append-assoc}
+use mathlib.Core.List.{List, [], _∷_, _++_, append-assoc, map}
 use mathlib.Core.Bool.{Bool, false}
+use mathlib.Core.Logic.{inl, inr}
+use native.Mathlib.Nat.{add-zero}
 use native.Mathlib.Omega.{arith}
-use lib.ListN.{length, take, drop, length-append}
-use lib.Seq.{take-at, drop-at}
+use lib.ListN.{length, getD, take, drop, length-append}
+use lib.Seq.{take-at, drop-at, getD-append-add}
+use Rattle.crc.specs.Crc.{check8Of}
 use Rattle.layout.specs.declared.Format.{Format}
 use Rattle.layout.specs.declared.Format.the-variants.{Fboss, Vpd, Tiny, Onie}
 use Rattle.layout.specs.Bytes.{part, partAt}
 use Rattle.layout.specs.Shape.{Shape}
 use Rattle.layout.specs.Fboss.{fboss}
+use Rattle.layout.specs.Vpd.{vpd}
 use Rattle.layout.specs.Tiny.{tiny}
 use Rattle.layout.specs.Onie.{onie}
 use Rattle.layout.specs.Editions.{shape}
-use Rattle.layout.specs.Walk.{Raw, flat}
-use Rattle.layout.specs.Calls.{keyPart, entryOf, entriesOf}
+use Rattle.layout.specs.Walk.{Raw, Content, flat}
+use Rattle.layout.specs.Calls.{Told, keyPart, entryOf, entriesOf}
+use Rattle.laws.specs.Contents.{said, replaced}
 use Rattle.laws.specs.Grammar.{grammar, Each, none, also}
 use Rattle.laws.proofs.Frames.{IsRaw, raw-size, part-between}
+use Rattle.laws.proofs.Lists.{length-map}
 use Rattle.laws.proofs.Walking.{Frames}
-use Rattle.laws.proofs.Records.{raw-placed, entry-said, records-tile, entries-count}
+use Rattle.laws.proofs.Records.{entry-said, records-tile, entries-count}
 use Rattle.laws.proofs.Formats.{laws}
 use Rattle.laws.proofs.Calls.{Found, check-found}
-use Rattle.promises.specs.Listing.{Tile, ListOf, Listing}
+use Rattle.promises.specs.Listing.{Tile, EndByte, EndsAt, ListOf, Listing, ListingAfterEdits}
+use Rattle.promises.specs.Words.{Counts, Reads, tellsCheck}
 use Rattle.promises.proofs.Telling.{chosen-serves, counts-accepted}
 use Rattle.promises.proofs.Accepting.{lists}
 use Rattle.promises.proofs.PublishedRules.{raw-entry}
+use Rattle.promises.proofs.OlderEdits.{older-edits}
 
 -- ---- tiles
 
@@ -45,10 +53,10 @@ module _ (g : Format) (e p : ℕ) (r : Raw) where
   -- a record's bytes are its entry's
   record-bytes : (pre t : List ℕ) → IsRaw (grammar g) r → length pre ≡ p →
       let x = entryOf (shape g) e p r in
-      part (x .place .0) (x .value .place .0 + x .value .len - x .place .0) (pre ++ (r .bytes ++ t)) ≡ r .bytes
+      part (x .place .0) (x .size) (pre ++ (r .bytes ++ t)) ≡ r .bytes
   unfolding entryOf
   record-bytes pre t i q =
-      let size : p + r .frame .val + r .frame .vlen - p ≡ length (r .bytes) = omega (arith, raw-size i, raw-placed (laws g) r i .valueLast) in
+      let size : r .frame .size ≡ length (r .bytes) = sym (raw-size i) in
       rw size (part-between pre (r .bytes) t p q)
 
   tile : (pre t : List ℕ) → IsRaw (grammar g) r → length pre ≡ p → Tile g (pre ++ (r .bytes ++ t)) (entryOf (shape g) e p r)
@@ -67,6 +75,38 @@ each-tile g e b (r ∷ rs) p pre t fs q =
     let there : (pre ++ r .bytes) ++ (flat rs ++ t) ≡ pre ++ (r .bytes ++ (flat rs ++ t)) = append-assoc pre (r .bytes) (flat rs ++ t) in
     let rest = each-tile g e (shape g .last (r .frame .code)) rs (p + r .frame .size) (pre ++ r .bytes) t (fs .2) (omega (arith, length-append pre (r .bytes), raw-size (fs .1))) in
     rw (append-assoc (r .bytes) (flat rs) t) (also (tile g e p r pre (flat rs ++ t) (fs .1) q) (rw there at rest))
+
+-- ---- the end
+
+-- the byte after others
+byte-after : (front : List ℕ) (b : ℕ) (t : List ℕ) → getD (front ++ (b ∷ t)) (length front) 0 ≡ b
+byte-after front b t = let q = getD-append-add front (b ∷ t) 0 0 in rw add-zero at q
+
+-- what closes the entries, and the check after it, begin with the end's byte
+record Opens (g : Format) (before tail : List ℕ) : Type 0 where
+  pub byte : ℕ
+  pub rest : List ℕ
+  pub is : tail ≡ byte ∷ rest
+  pub ends : EndByte g before byte
+
+end-opens : (g : Format) (closing rest before : List ℕ) → grammar g .Closing closing → Opens g before (closing ++ (shape g .check before ++ rest))
+unfolding fboss tiny onie vpd
+end-opens Fboss closing rest before q = record { byte = 250; rest = 2 ∷ (fboss .check before ++ rest); is = rw q; ends = refl }
+end-opens Vpd closing rest before (inl q) = record { byte = 0x00; rest = rest; is = rw q; ends = inl refl }
+end-opens Vpd closing rest before (inr q) = record { byte = 0xFF; rest = rest; is = rw q; ends = inr refl }
+end-opens Tiny closing rest before q = record { byte = check8Of 0 before; rest = rest; is = rw q; ends = refl }
+end-opens Onie closing rest before q = record { byte = 0xFE; rest = 4 ∷ (onie .check before ++ rest); is = rw q; ends = refl }
+
+pub ends-at : (g : Format) (image : List ℕ) (end : ℕ) (closing rest before : List ℕ) → grammar g .Closing closing → length before ≡ end →
+    image ≡ before ++ (closing ++ (shape g .check before ++ rest)) → EndsAt g image end
+ends-at g image end closing rest before closes long is =
+    let o = end-opens g closing rest before closes in
+    let whole : image ≡ before ++ (o .byte ∷ o .rest) = is ∙ ap (λ (t : List ℕ). before ++ t) (o .is) in
+    rw (← long, whole)
+    (record {
+      inside = omega (arith, length-append before (o .byte ∷ o .rest));
+      byte = rw (byte-after before (o .byte) (o .rest), take-at before (o .byte ∷ o .rest) (length before) refl) (o .ends);
+    })
 
 -- ---- the list
 
@@ -95,7 +135,7 @@ list-of f e image n x =
       headed = rw size (ap (take (x .start)) (m .is) ∙ take-at header _ (x .start) (sym (m .starts)));
       tiled = records-tile (laws g) e false (x .raws) (x .start) (m .frames);
       each = rw (m .is) (each-tile g e false (x .raws) (x .start) header _ (m .frames) (sym (m .starts)));
-      inside = rw (m .is, m .starts) (simp length-append (omega arith));
+      begins = ends-at g image end (m .closing) (m .rest) (header ++ entries) (m .closes) long whole;
       closing = m .closing;
       rest = m .rest;
       closes = m .closes;
@@ -104,3 +144,25 @@ list-of f e image n x =
 
 pub listing : Listing
 listing f e image n q = list-of f e image n (check-found f e image n (counts-accepted f e image n q))
+
+-- ---- after an edit
+
+replaced-count : (cs : List Content) (i : ℕ) (v : List ℕ) → length (replaced cs i v) ≡ length cs
+unfolding replaced
+replaced-count [] i v = refl
+replaced-count (c ∷ cs) zero v = refl
+replaced-count (c ∷ cs) (suc i) v = ap suc (replaced-count cs i v)
+
+-- an image that reads as so many entries is accepted with their number, and has the list of them
+reads-counts : (f e : ℕ) (image : List ℕ) (cs : List Content) → Reads f e image cs → Counts (tellsCheck f e image) (length cs)
+reads-counts f e image cs r =
+    let long : length (r .entries) ≡ length cs = sym (length-map (said image) (r .entries)) ∙ ap length (r .says) in rw (← long) (r .accepted)
+
+reads-listed : (f e : ℕ) (image : List ℕ) (cs : List Content) (n : ℕ) → length cs ≡ n → Reads f e image cs → ListOf f e image n
+reads-listed f e image cs n long r = listing f e image n (rw (← long) (reads-counts f e image cs r))
+
+pub listing-after-edits : ListingAfterEdits
+listing-after-edits f o n image count i v out m le q w =
+    let k = older-edits f o n image count i v out m le q w in
+    let long : length (replaced (k .former) i v) ≡ count = replaced-count (k .former) i v ∙ ap (λ (t : Told). t .count) (sym (reads-counts f n image (k .former) (k .before)) ∙ q) in
+    (reads-listed f n _ (replaced (k .former) i v) count long (k .whole), reads-listed f n _ (replaced (k .former) i v) count long (k .front))

@@ -25,6 +25,7 @@ module _ (o n : ℕ) (image : List ℕ) (g : Format) (k : KnownEdition o) (le : 
       record {
         says = refl;
         place = refl;
+        size = refl;
         key = refl;
         value = refl;
         kept = λ y.

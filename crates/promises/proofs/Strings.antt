@@ -32,7 +32,7 @@ use Rattle.promises.proofs.Telling.{one-format, chosen-serves, counts-a
 
 -- ---- bytes cut into strings
 
-no-item : {A B : Type 0} {n : ℕ} {x : A} → Item [] n x → B
+pub no-item : {A B : Type 0} {n : ℕ} {x : A} → Item [] n x → B
 no-item it = elim it [ ]
 
 -- the strings of bytes that stand at p: their cut, and what is found where `front` was passed and bs follows

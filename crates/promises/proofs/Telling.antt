@@ -40,10 +40,10 @@ use Rattle.promises.proofs.WriteCalls.{MadeLow, editNumbers, edited-low
 -- ---- formats and editions
 
 pub edition-known : (e : ℕ) → KnownEdition e → knownEdition e ≡ true
-edition-known e k = rw (le-leb 1 e (k .0), le-leb e 3 (k .1))
+edition-known e k = rw (le-leb 1 e (k .0), le-leb e 4 (k .1))
 
 pub known-edition : (e : ℕ) → knownEdition e ≡ true → KnownEdition e
-known-edition e q = let b = both (leb 1 e) (leb e 3) q in (leb-true 1 e (b .0), leb-true e 3 (b .1))
+known-edition e q = let b = both (leb 1 e) (leb e 4) q in (leb-true 1 e (b .0), leb-true e 4 (b .1))
 
 pub first-edition : (g : Format) → shape g .edition ≡ firstEdition g
 unfolding fbossShape vpdShape tinyShape onieShape

@@ -1,22 +1,38 @@
--- Promise 2, the list: one record for each entry, in image order; the records tile the image from the header to the end of the entries, where the closing stands.
+-- Promise 2, the list: one record for each entry, in image order; the records tile the image from the header to the end of the entries, where the closing stands. First byte
+-- plus length of the whole frame of a record is the first byte of the next, and of the last one where the end begins.
 -- Assumes nothing.
-use Prim.Native.Nat.{ℕ, _+_, _-_, _≤_}
+use Prim.Native.Nat.{ℕ, _-_, _≤_, _<_}
 use mathlib.Core.Path.{_≡_}
 use mathlib.Core.List.{List, _++_}
-use lib.ListN.{length, take, drop}
+use mathlib.Core.Logic.{_⊎_}
+use lib.ListN.{length, getD, take, drop}
+use Rattle.crc.specs.Crc.{check8Of}
 use Rattle.layout.specs.declared.Format.{Format}
 use Rattle.layout.specs.declared.Entry.{Entry}
-use Rattle.layout.specs.declared.Format.the-variants.{Vpd}
+use Rattle.layout.specs.declared.Format.the-variants.{Fboss, Vpd, Tiny, Onie}
 use Rattle.layout.specs.Bytes.{part, partAt}
+use Rattle.layout.specs.Edit.{editEntry}
 use Rattle.layout.specs.Editions.{shape}
 use Rattle.laws.specs.Contents.{said, Tiles}
 use Rattle.laws.specs.Grammar.{grammar, EntryOf, Each}
-use Rattle.promises.specs.Words.{Serves, Counts, Lists, tellsCheck}
+use Rattle.promises.specs.Words.{Serves, Counts, Lists, tellsCheck, tellsEdit}
 
--- a record's bytes, from its place to its value's end, are an entry of the grammar that says what the record says; without keys the key has length 0 and stands at the value's place
+-- a record's bytes, from its place on and as many as its frame has, are an entry of the grammar that says what the record says; without keys the key has length 0 and stands at the value's place
 pub record Tile (format : Format) (image : List ℕ) (x : Entry) : Type 0 where
-  pub entry : EntryOf (grammar format) (part (x .place .0) (x .value .place .0 + x .value .len - x .place .0) image) (said image x)
+  pub entry : EntryOf (grammar format) (part (x .place .0) (x .size) image) (said image x)
   pub keyless : (format ≡ Vpd → ⊥) → x .key ≡ partAt (x .value .place .0) 0
+
+-- the byte with which the end begins, after all these bytes: FBOSS's code 250, VPD's end byte, Tiny's check byte, ONIE's FEh
+abbrev pub EndByte : Format → List ℕ → ℕ → Type 0
+EndByte Fboss before b = b ≡ 250
+EndByte Vpd before b = (b ≡ 0x00) ⊎ (b ≡ 0xFF)
+EndByte Tiny before b = b ≡ check8Of 0 before
+EndByte Onie before b = b ≡ 0xFE
+
+-- the end of an image begins at q
+pub record EndsAt (format : Format) (image : List ℕ) (q : ℕ) : Type 0 where
+  pub inside : q < length image
+  pub byte : EndByte format (take q image) (getD image q 0)
 
 -- the list of an accepted image with n entries, whose header ends at `start` and whose entries end at `end`
 pub record ListOf (f e : ℕ) (image : List ℕ) (n : ℕ) : Type 0 where
@@ -31,11 +47,18 @@ pub record ListOf (f e : ℕ) (image : List ℕ) (n : ℕ) : Type 0 where
   pub tiled : Tiles start entries end
   pub each : Each (Tile format image) entries
   -- the entries end where the closing stands, and the check after it is right
-  pub inside : end ≤ length image
+  pub begins : EndsAt format image end
   pub closing : List ℕ
   pub rest : List ℕ
   pub closes : grammar format .Closing closing
   pub ends : drop end image ≡ closing ++ (shape format .check (take end image) ++ rest)
 
+-- of every image that an edition accepts
 abbrev pub Listing : Type 0
 Listing = (f e : ℕ) (image : List ℕ) (n : ℕ) → Counts (tellsCheck f e image) n → ListOf f e image n
+
+-- and after every edit, by the same edition or an older one: of the whole output, and of its part up to the length given
+abbrev pub ListingAfterEdits : Type 0
+ListingAfterEdits =
+    (f o n : ℕ) (image : List ℕ) (count i : ℕ) (v out : List ℕ) (m : ℕ) → o ≤ n → Counts (tellsCheck f n image) count → Counts (tellsEdit f o image i v out) m →
+    let output = editEntry f o image i v out .memory in ListOf f n output count × ListOf f n (take m output) count

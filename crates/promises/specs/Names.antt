@@ -22,7 +22,7 @@ pub data Two : Format → ℕ → Type 0 where
   tiny80 : Two Tiny 0x80
   tiny81 : Two Tiny 0x81
 
--- edition 3 names those, and these: ONIE 21h to 25h, 2Ah to 2Dh, FDh
+-- edition 3 names those, and these: ONIE 21h to 25h, 2Ah to 2Dh, FDh. Edition 4 names no more
 pub data Three : Format → ℕ → Type 0 where
   onie21 : Three Onie 0x21
   onie22 : Three Onie 0x22

@@ -15,6 +15,7 @@ use Rattle.promises.specs.Names.{Named}
 pub record Alike (format : Format) (o : ℕ) (image : List ℕ) (old new : Entry) : Type 0 where
   pub says : said image old ≡ said image new
   pub place : old .place ≡ new .place
+  pub size : old .size ≡ new .size
   pub key : old .key ≡ new .key
   pub value : old .value ≡ new .value
   -- an entry that the older edition names has the same kind and reading

@@ -24,9 +24,9 @@ pub data FormatNumber : ℕ → Format → Type 0 where
   tiny : FormatNumber 3 Tiny
   onie : FormatNumber 4 Onie
 
--- 01's term "edition": the known ones are 1, 2 and 3
+-- 01's term "edition": the known ones are 1 to 4
 abbrev pub KnownEdition : ℕ → Type 0
-KnownEdition e = (1 ≤ e) × (e ≤ 3)
+KnownEdition e = (1 ≤ e) × (e ≤ 4)
 
 -- the first edition that has a format
 abbrev pub firstEdition : Format → ℕ

@@ -115,6 +115,7 @@ fn entry_of(format: Format, p: usize, f: Frame, as_kind: u32, reading: Reading) 
         code: code,
         kind: as_kind,
         place: Place(p),
+        size: f.size,
         key: key,
         value: value,
         reading: reading,

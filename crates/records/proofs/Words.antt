@@ -11,6 +11,9 @@ use mir.Syntax.{w8}
 use mir.Val.{SFits}
 use lib.ListN.{length, getD, set, take, length-append}
 use lib.Seq.{take-all, take-suc, length-take-le}
+use lib.Dec.{leb}
+use borrow.Author.Tests.{le-leb, lt-leb}
+use Rattle.laws.proofs.Choices.{either}
 use Rattle.laws.proofs.Lists.{joined-append}
 use Rattle.output.specs.Placing.{over, copied}
 use Rattle.output.proofs.Overlay.{length-over, over-nil, over-over, copied-over, copied-not, Copying, copies, copied-all}
@@ -21,7 +24,7 @@ use Rattle.layout.specs.Calls.{toldReading}
 use Rattle.blocks.specs.declared.Offsets.{Offsets}
 use Rattle.blocks.specs.declared.Block.{Block}
 use Rattle.blocks.specs.Offset.{signedByte, eachOffset}
-use Rattle.records.specs.Words.{wordBytes, wordsBytes, readingWords, recordWords, recordBytes, recordsBytes, signedWord, blockWords, blockBytes}
+use Rattle.records.specs.Words.{wordBytes, wordsBytes, readingWords, formerWords, recordWords, recordBytes, recordsBytes, signedWord, blockWords, blockBytes}
 
 -- four bytes stored one after another
 pub stored-four : (d : List ℕ) (a w x y z : ℕ) → a + 4 ≤ length d → set (set (set (set d a w) (a + 1) x) (a + 2) y) (a + 3) z ≡ copied d a (w ∷ x ∷ y ∷ z ∷ [])
@@ -95,17 +98,26 @@ reading-eight (Batched x batch) = refl
 reading-eight (Dated d) = refl
 reading-eight (Timed d t) = refl
 
--- a record has 64 bytes
-pub length-record : (x : Entry) → length (recordBytes x) ≡ 64
-unfolding recordBytes
-length-record x =
-    let e : length (readingWords (x .reading)) ≡ 8 = sym (ap length (reading-eight (x .reading))) in
-    omega (arith, length-words (recordWords x), e)
+-- the words of a record by the edition
+pub framed-words : (e : ℕ) (x : Entry) → 4 ≤ e → set (formerWords x) 7 (x .size) ≡ recordWords e x
+framed-words e x le = rw (le-leb 4 e le)
 
-pub length-records : (xs : List Entry) → length (recordsBytes xs) ≡ length xs * 64
+pub former-words : (e : ℕ) (x : Entry) → e < 4 → formerWords x ≡ recordWords e x
+former-words e x lt = rw (lt-leb 4 e lt)
+
+-- a record has 16 words and 64 bytes, whatever the edition
+pub record-sixteen : (e : ℕ) (x : Entry) → length (recordWords e x) ≡ 16
+record-sixteen e x =
+    let n : length (readingWords (x .reading)) ≡ 8 = sym (ap length (reading-eight (x .reading))) in either (λ ws. length ws ≡ 16) (leb 4 e) (λ _. omega (arith, n)) (λ _. omega (arith, n))
+
+pub length-record : (e : ℕ) (x : Entry) → length (recordBytes e x) ≡ 64
+unfolding recordBytes
+length-record e x = omega (arith, length-words (recordWords e x), record-sixteen e x)
+
+pub length-records : (e : ℕ) (xs : List Entry) → length (recordsBytes e xs) ≡ length xs * 64
 unfolding recordsBytes
-length-records [] = refl
-length-records (x ∷ xs) = let q = length-records xs in omega (arith, q, length-record x, length-append (recordBytes x) (recordsBytes xs))
+length-records e [] = refl
+length-records e (x ∷ xs) = let q = length-records e xs in omega (arith, q, length-record e x, length-append (recordBytes e x) (recordsBytes e xs))
 
 -- ---- signed numbers
 

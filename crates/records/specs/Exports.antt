@@ -43,16 +43,16 @@ stringCall f e img number = packed (toldLocated (stringAt f e img number))
 
 -- ---- one record
 
--- the entry's record takes the place of the first 64 bytes; 12 where they are not there
-abbrev pub recorded : Lookup → List ℕ → Given
-recorded (Found x) m =
+-- the entry's record for an edition takes the place of the first 64 bytes; 12 where they are not there
+abbrev pub recorded : ℕ → Lookup → List ℕ → Given
+recorded e (Found x) m =
     if (leb 64 (length m))
-    (λ _. record { answer = packed (toldLookup (Found x)); memory = recordBytes x ++ drop 64 m })
+    (λ _. record { answer = packed (toldLookup (Found x)); memory = recordBytes e x ++ drop 64 m })
     (λ _. kept (refusal 12 0) m)
-recorded (Missing r) m = kept r m
+recorded e (Missing r) m = kept r m
 
 unfoldable pub entryCall : ℕ → ℕ → List ℕ → ℕ → List ℕ → Given
-entryCall f e img n m = recorded (entryAt f e img n) m
+entryCall f e img n m = recorded e (entryAt f e img n) m
 
 -- ---- the walk's step
 
@@ -79,11 +79,11 @@ pub record Moved : Type 0 where
 abbrev pub unmoved : Refusal → List ℕ → List ℕ → Moved
 unmoved r w m = record { answer = packed (toldRefusal r); walk = w; memory = m }
 
--- the walk has the entry number n where the step is not refused
+-- the walk has the entry number n where the step is not refused; the record is one for the walk's edition
 abbrev pub steppedTo : Lookup → ℕ → List ℕ → List ℕ → Moved
 steppedTo (Found x) n w m =
     if (leb 64 (length m))
-    (λ _. record { answer = packed (toldLookup (Found x)); walk = walkAt w n; memory = recordBytes x ++ drop 64 m })
+    (λ _. record { answer = packed (toldLookup (Found x)); walk = walkAt w n; memory = recordBytes (walkEdition w) x ++ drop 64 m })
     (λ _. unmoved (refusal 12 0) w m)
 steppedTo (Missing r) n w m = unmoved r w m
 
@@ -96,14 +96,14 @@ stepCall w img m = stepped (stepFrom (walkFormat w) (walkEdition w) (walkEntry w
 -- ---- all records
 
 -- the records take the place of the first bytes, 64 for each; 12 where there are too few
-abbrev pub recordedAll : List Entry → List ℕ → Given
-recordedAll es m =
+abbrev pub recordedAll : ℕ → List Entry → List ℕ → Given
+recordedAll e es m =
     if (leb (length es) (length m / 64))
-    (λ _. record { answer = packed (told (length es) (partAt 0 0) es); memory = recordsBytes es ++ drop (length es * 64) m })
+    (λ _. record { answer = packed (told (length es) (partAt 0 0) es); memory = recordsBytes e es ++ drop (length es * 64) m })
     (λ _. kept (refusal 12 0) m)
 
 abbrev pub recordedBy : Read → ℕ → List ℕ → Given
-recordedBy (accepted f start rs) e m = recordedAll (entriesOf (shape f) e start rs) m
+recordedBy (accepted f start rs) e m = recordedAll e (entriesOf (shape f) e start rs) m
 recordedBy (refused r) e m = kept r m
 
 unfoldable pub listCall : ℕ → ℕ → List ℕ → List ℕ → Given

@@ -3,9 +3,11 @@
 use Prim.Native.Nat.{ℕ, _-_, _/_, _%_}
 use mathlib.Core.List.{List, [], _∷_, _++_}
 use lib.IntN.{ℤ, pos, negsuc}
-use lib.ListN.{take, replicate}
+use lib.ListN.{take, drop, replicate}
+use lib.Dec.{leb}
 use Rattle.layout.specs.declared.Reading.{Reading}
 use Rattle.layout.specs.declared.Entry.{Entry}
+use Rattle.layout.specs.Bytes.{if}
 use Rattle.layout.specs.Calls.{toldReading}
 use Rattle.blocks.specs.declared.Block.{Block}
 use Rattle.blocks.specs.Offset.{eachOffset}
@@ -22,17 +24,25 @@ wordsBytes (w ∷ ws) = wordBytes w ++ wordsBytes ws
 abbrev pub readingWords : Reading → List ℕ
 readingWords r = take 8 (toldReading r ++ replicate 8 0)
 
--- code, kind, place, key, value, 0, reading
-abbrev pub recordWords : Entry → List ℕ
-recordWords x =
+-- editions 1 to 3: code, kind, place, key, value, 0, reading
+abbrev pub formerWords : Entry → List ℕ
+formerWords x =
     x .code ∷ x .kind ∷ x .place .0 ∷ x .key .place .0 ∷ x .key .len ∷ x .value .place .0 ∷ x .value .len ∷ 0 ∷ readingWords (x .reading)
 
-unfoldable pub recordBytes : Entry → List ℕ
-recordBytes x = wordsBytes (recordWords x)
+-- from edition 4 on the length of the whole frame stands in place of the 0
+abbrev pub framedWords : Entry → List ℕ
+framedWords x = take 7 (formerWords x) ++ (x .size ∷ drop 8 (formerWords x))
 
-unfoldable pub recordsBytes : List Entry → List ℕ
-recordsBytes [] = []
-recordsBytes (x ∷ xs) = recordBytes x ++ recordsBytes xs
+abbrev pub recordWords : ℕ → Entry → List ℕ
+recordWords e x = if (leb 4 e) (λ _. framedWords x) (λ _. formerWords x)
+
+-- the record of an entry for an edition
+unfoldable pub recordBytes : ℕ → Entry → List ℕ
+recordBytes e x = wordsBytes (recordWords e x)
+
+unfoldable pub recordsBytes : ℕ → List Entry → List ℕ
+recordsBytes e [] = []
+recordsBytes e (x ∷ xs) = recordBytes e x ++ recordsBytes e xs
 
 -- a signed number in a word: itself, or 2^32 more where it is negative
 abbrev pub signedWord : ℤ → ℕ

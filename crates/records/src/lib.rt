@@ -9,7 +9,7 @@ ghost use Rattle.layout.specs.Bytes.{partAt};
 ghost use Rattle.output.specs.Placing.{copied};
 ghost use Rattle.blocks.specs.Offset.{eachOffset};
 ghost use Rattle.records.specs.Packed.{packed};
-ghost use Rattle.records.specs.Words.{wordBytes, wordsBytes, readingWords, recordWords, recordBytes, signedWord, blockWords, blockBytes};
+ghost use Rattle.records.specs.Words.{wordBytes, wordsBytes, readingWords, formerWords, recordWords, recordBytes, signedWord, blockWords, blockBytes};
 use blocks::Block;
 use blocks::Offsets;
 use layout::Checked;
@@ -173,8 +173,9 @@ fn reading_words(r: Reading) -> [u64; 8]
     }
 }
 
-fn record_words(x: Entry) -> [u64; 16]
-    ensures { λ r. ⌜ r ≡ recordWords x ⌝ }
+// The words of editions 1 to 3.
+fn former_words(x: Entry) -> [u64; 16]
+    ensures { λ r. ⌜ r ≡ formerWords x ⌝ }
 {
     let place = x.place;
     let key = x.key;
@@ -203,11 +204,22 @@ fn record_words(x: Entry) -> [u64; 16]
     ]
 }
 
-// The record of an entry over `out`, from `at` on, where it fits.
-pub fn put_record(out: &mut [u8], at: usize, x: Entry)
-    ensures { λ r. ⌜ now (out .exit) ≡ copied (now (out .entry)) at (recordBytes x) ⌝ }
+// From edition 4 on word 7 is the length of the whole frame.
+fn record_words(edition: u32, x: Entry) -> [u64; 16]
+    ensures { λ r. ⌜ r ≡ recordWords edition x ⌝ }
 {
-    let words = record_words(x);
+    let mut words = former_words(x);
+    if 4 <= edition {
+        words[7] = x.size as u64;
+    }
+    words
+}
+
+// The record of an entry for an edition over `out`, from `at` on, where it fits.
+pub fn put_record(out: &mut [u8], at: usize, edition: u32, x: Entry)
+    ensures { λ r. ⌜ now (out .exit) ≡ copied (now (out .entry)) at (recordBytes edition x) ⌝ }
+{
+    let words = record_words(edition, x);
     put_words(out, at, &words);
 }
 

@@ -30,7 +30,7 @@ returns c =
     let a = c .before .before .before .before .before .before .before .before .args in
     let l = entryAt (a .format) (a .edition) (now (a .image)) (a .n) in
     let q : l ≡ Found (c .before .before .before .x2 .given .0 .0) = sym (c .before .before .before .before .before .entry-at .ensures) ∙ c .before .before .before .x2 .given .1 in
-    let z = entry-is (a .format) (a .edition) (now (a .image)) (a .n) (now (a .out)) ∙ not-recorded (now (a .out)) _ l q (search needs) in
+    let z = entry-is (a .format) (a .edition) (now (a .image)) (a .n) (now (a .out)) ∙ not-recorded (a .edition) (now (a .out)) _ l q (search needs) in
     (c .no-room .ensures ∙ sym (ap (λ (g : Given). g .answer) z), sym (ap (λ (g : Given). g .memory) z))
 
 put-record-requires : tie.Need-put-record-requires
@@ -44,7 +44,7 @@ returns-2 c =
     let a = c .before .before .before .before .before .before .before .args in
     let l = entryAt (a .format) (a .edition) (now (a .image)) (a .n) in
     let q : l ≡ Missing (c .before .before .x .given .0 .0) = sym (c .before .before .before .before .entry-at .ensures) ∙ c .before .before .x .given .1 in
-    let z = entry-is (a .format) (a .edition) (now (a .image)) (a .n) (now (a .out)) ∙ none-recorded (now (a .out)) _ l q in
+    let z = entry-is (a .format) (a .edition) (now (a .image)) (a .n) (now (a .out)) ∙ none-recorded (a .edition) (now (a .out)) _ l q in
     (c .pack-refusal .ensures ∙ sym (ap (λ (g : Given). g .answer) z), sym (ap (λ (g : Given). g .memory) z))
 
 same-length : tie.Need-same-length
@@ -55,7 +55,7 @@ returns-3 c =
     let a = c .before .before .before .before .before .before .before .before .before .before .before .before .args in
     let l = entryAt (a .format) (a .edition) (now (a .image)) (a .n) in
     let q : l ≡ Found (c .before .before .before .before .before .before .before .x2 .given .0 .0) = sym (c .before .before .before .before .before .before .before .before .before .entry-at .ensures) ∙ c .before .before .before .before .before .before .before .x2 .given .1 in
-    let z = entry-is (a .format) (a .edition) (now (a .image)) (a .n) (now (a .out)) ∙ is-recorded (now (a .out)) _ l q (search needs) in
+    let z = entry-is (a .format) (a .edition) (now (a .image)) (a .n) (now (a .out)) ∙ is-recorded (a .edition) (now (a .out)) _ l q (search needs) in
     (c .pack-count .ensures ∙ sym (ap (λ (g : Given). g .answer) z), c .before .before .before .put-record .ensures ∙ sym (ap (λ (g : Given). g .memory) z))
 
 pub boardid-entry-spec : {M : Type 1} → statement M

@@ -9,7 +9,7 @@ use Rattle.output.specs.Placing.{copied}
 use Rattle.reader.specs.declared.Walk.{Walk}
 use Rattle.reader.specs.declared.Stepped.{Stepped}
 use Rattle.reader.specs.Walk.{stepWalk}
-use Rattle.records.specs.Words.{wordsBytes}
+use Rattle.records.specs.Words.{wordsBytes, recordBytes}
 use Rattle.records.specs.Exports.{Moved, walkFormat, walkEdition, walkEntry}
 use Rattle.boardid.proofs.Giving.{stepsTo, step-refused, step-short, step-given}
 use borrow.Author.Needs.{needs}
@@ -83,8 +83,9 @@ returns-3 c =
     let e : c .before .before .before .before .before .before .before .before .before .before .before .before .before .before .step .result ≡ stepWalk (record { format = walkFormat w; edition = walkEdition w; entry = walkEntry w }) img = c .before .before .before .before .before .before .before .before .before .before .before .before .before .before .step .ensures ∙ ap (λ (v : Walk). stepWalk v img) (c .before .before .before .before .before .before .before .before .before .before .before .before .before .before .before .walk-in .ensures) in
     let q : stepsTo w img .answer ≡ Found (c .before .before .before .before .before .before .before .before .before .before .before .before .x2 .given .0 .0) = sym (ap (λ (t : Stepped). t .answer) e) ∙ c .before .before .before .before .before .before .before .before .before .before .before .before .x2 .given .1 in
     let z = step-given w img (now (a .out)) _ q (search needs) in
+    let edition : c .before .before .before .before .before .before .before .before .before .before .before .before .before .before .before .walk-in .result .edition ≡ walkEdition w = ap (λ (v : Walk). v .edition) (c .before .before .before .before .before .before .before .before .before .before .before .before .before .before .before .walk-in .ensures) in
     let n : c .before .before .before .before .before .before .before .before .before .before .before .before .before .before .step .result .next .entry ≡ stepsTo w img .next = ap (λ (t : Stepped). t .next .entry) e in
-    (c .pack-count .ensures ∙ sym (ap (λ (g : Moved). g .answer) z), c .before .before .before .before .before .before .before .put-long .ensures ∙ ap (λ (k : ℕ). copied w 8 (wordsBytes (k ∷ k / 4294967296 ∷ []))) n ∙ sym (ap (λ (g : Moved). g .walk) z), c .before .before .before .put-record .ensures ∙ sym (ap (λ (g : Moved). g .memory) z))
+    (c .pack-count .ensures ∙ sym (ap (λ (g : Moved). g .answer) z), c .before .before .before .before .before .before .before .put-long .ensures ∙ ap (λ (k : ℕ). copied w 8 (wordsBytes (k ∷ k / 4294967296 ∷ []))) n ∙ sym (ap (λ (g : Moved). g .walk) z), c .before .before .before .put-record .ensures ∙ ap (λ (k : ℕ). copied (now (a .out)) 0 (recordBytes k (c .before .before .before .before .before .before .before .before .before .before .before .before .x2 .given .0 .0))) edition ∙ sym (ap (λ (g : Moved). g .memory) z))
 
 pub boardid-step-spec : {M : Type 1} → statement M
 boardid-step-spec =

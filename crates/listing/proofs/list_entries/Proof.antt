@@ -358,7 +358,7 @@ module _ {M : Type 1} (𝓤 : URA M) (H : Heap 𝓤) (A : Atoms 𝓤) (W : Given
           land ! (from ! (stop !)) (init ! 11 refl (LL.lawful T.the-type T′.the-laws 𝓤 H A W .typed r _ is .0)) $
           assigns ! (bin ! (load ! (from ! (stop !)) (look ! 15 refl)) (lit ! tt) (record { fits = bytes-fit })) (from ! (stop !)) (init ! 9 refl (tt, record { fits = bytes-fit })) $
           assigns ! (bin ! (load ! (from ! (fld ! refl (stop !))) (look-in ! 25 (sub ! 0 refl (whole !)))) (load ! (from ! (stop !)) (look ! 9 refl)) tt) (from ! (stop !)) (init ! 7 refl (tt, tt)) $
-          rewrite ! 7 (λ (p : ℕ). ‵ (fat fullShare tyPtr l₁₃ 0 (vptr b p))) (sym (place-is 88 o i)) refl $
+          rewrite ! 7 (λ (p : ℕ). ‵ (fat fullShare tyPtr l₁₃ 0 (vptr b p))) (sym (place-is 96 o i)) refl $
           -- element i is taken out of the row, stored to, and put back
           move ! (1 ∷ []) $ elem-out ! T.the-row (Is T.the-row) (shows 𝓤 H A T.the-row) (LL.vals T.the-type T′.the-laws) (LL.tells T.the-type T′.the-laws) fullShare (done-to i) i r b o in-row (λ _.
           -- [records[i]; what the old one owns; the others; what the entry owns; the token; Image; the open borrow; obs; auth; the locals, j at 35 - 2 j]
@@ -389,10 +389,10 @@ module _ {M : Type 1} (𝓤 : URA M) (H : Heap 𝓤) (A : Atoms 𝓤) (W : Given
           in-row : i < length (done-to i)
           in-row = subst (λ (n : ℕ). i < n) (sym (length-filled shown i rs (omega (arith, in-records)))) in-records
 
-          all-fit : length rs * 88 < 2 ^ 63
+          all-fit : length rs * 96 < 2 ^ 63
           all-fit = room .1
 
-          bytes-fit : i * 88 < 2 ^ 64
+          bytes-fit : i * 96 < 2 ^ 64
           bytes-fit = omega (arith, in-records, all-fit)
 
           next-fits : i + 1 < 2 ^ 64
