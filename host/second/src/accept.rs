@@ -107,6 +107,7 @@ impl Accepted<'_> {
             key_len: frame.key.len() as u32,
             value_place: frame.value.start as u32,
             value_len: frame.value.len() as u32,
+            frame_len: frame.length as u32,
             reading,
         }
     }

@@ -28,7 +28,7 @@ pub fn list(format: u32, edition: u32, image: &[u8], records: &mut [u8]) -> u64 
     let room = records.len() / RECORD;
     answer(crate::list(format, edition, image, room).map(|entries| {
         for (record, entry) in records.chunks_exact_mut(RECORD).zip(&entries) {
-            record.copy_from_slice(&record_bytes(entry));
+            record.copy_from_slice(&record_bytes(edition, entry));
         }
         count(entries.len())
     }))
@@ -36,7 +36,7 @@ pub fn list(format: u32, edition: u32, image: &[u8], records: &mut [u8]) -> u64 
 
 /// Gives entry `n` in a record: count 1.
 pub fn entry(format: u32, edition: u32, image: &[u8], n: u64, record: &mut [u8]) -> u64 {
-    answer(crate::entry(format, edition, image, n).and_then(|entry| give(&entry, record)))
+    answer(crate::entry(format, edition, image, n).and_then(|entry| give(edition, &entry, record)))
 }
 
 /// Gives the value of entry `n`: its place and its length.
@@ -53,9 +53,10 @@ pub fn string(format: u32, edition: u32, image: &[u8], number: u64) -> u64 {
 ///
 /// A step that is not refused leaves the walk moved on by one.
 pub fn step(walk: &mut [u8], image: &[u8], record: &mut [u8]) -> u64 {
-    let (result, next) = crate::step(walk_from(walk), image);
+    let at = walk_from(walk);
+    let (result, next) = crate::step(at, image);
     answer(result.and_then(|entry| {
-        let given = give(&entry, record)?;
+        let given = give(at.edition, &entry, record)?;
         if let Some(lent) = walk.get_mut(..WALK) {
             lent.copy_from_slice(&walk_bytes(next));
         }
@@ -138,13 +139,18 @@ fn answer(result: Result<Given, Refusal>) -> u64 {
 }
 
 /// Puts one entry into the first whole record lent. Without one, this is refused.
-fn give(entry: &Entry, record: &mut [u8]) -> Result<Given, Refusal> {
+fn give(edition: u32, entry: &Entry, record: &mut [u8]) -> Result<Given, Refusal> {
     let record = record.get_mut(..RECORD).ok_or(Reason::NoRoom.at(0))?;
-    record.copy_from_slice(&record_bytes(entry));
+    record.copy_from_slice(&record_bytes(edition, entry));
     Ok(count(1))
 }
 
-fn record_bytes(entry: &Entry) -> [u8; RECORD] {
+/// A record, whose word 7 is the length of the whole frame from edition 4 on, and 0 in older ones.
+fn record_bytes(edition: u32, entry: &Entry) -> [u8; RECORD] {
+    let frame_len = match edition {
+        ..=3 => 0,
+        4.. => entry.frame_len,
+    };
     let (reading, carried) = reading_words(&entry.reading);
     let head = [
         entry.code,
@@ -154,7 +160,7 @@ fn record_bytes(entry: &Entry) -> [u8; RECORD] {
         entry.key_len,
         entry.value_place,
         entry.value_len,
-        0,
+        frame_len,
         reading,
     ];
     let mut bytes = [0; RECORD];

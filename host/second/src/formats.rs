@@ -124,6 +124,7 @@ pub(crate) enum Edition {
     One,
     Two,
     Three,
+    Four,
 }
 
 impl Edition {
@@ -132,6 +133,7 @@ impl Edition {
             1 => Ok(Edition::One),
             2 => Ok(Edition::Two),
             3 => Ok(Edition::Three),
+            4 => Ok(Edition::Four),
             _ => Err(Reason::Edition.at(0)),
         }
     }

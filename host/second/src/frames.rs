@@ -21,6 +21,8 @@ pub(crate) struct Frame {
     /// Without a key, this is empty and at the value's place.
     pub(crate) key: Range<usize>,
     pub(crate) value: Range<usize>,
+    /// How many bytes the frame has: code, length bytes as they are stored, key and value.
+    pub(crate) length: usize,
 }
 
 /// All entries of an image, in its order.
@@ -106,7 +108,7 @@ fn walk_to_end(mut reader: Reader, end: u8, end_length: u8) -> Result<Frames, Re
         if code == end {
             return Ok(Frames { frames, end: place });
         }
-        frames.push(without_key(code, place, value));
+        frames.push(without_key(code, place, value, reader.at));
     }
 }
 
@@ -132,6 +134,7 @@ fn walk_vpd(image: &[u8]) -> Result<Frames, Refusal> {
             place,
             key,
             value,
+            length: reader.at - place,
         });
     }
 }
@@ -172,18 +175,20 @@ fn walk_tiny(image: &[u8]) -> Result<Frames, Refusal> {
             length => length,
         };
         let value = reader.part(usize::from(length)).ok_or(past_room)?;
-        frames.push(without_key(code, place, value));
+        frames.push(without_key(code, place, value, reader.at));
         pool_seen = code == POOL;
     }
     Ok(Frames { frames, end })
 }
 
-fn without_key(code: u8, place: usize, value: Range<usize>) -> Frame {
+/// The frame of a format without keys, from its first byte to the place that the reader has come to.
+fn without_key(code: u8, place: usize, value: Range<usize>, read_to: usize) -> Frame {
     Frame {
         code,
         place,
         key: value.start..value.start,
         value,
+        length: read_to - place,
     }
 }
 

@@ -2,8 +2,8 @@
 //!
 //! It reads, writes and edits images of four layouts: FBOSS v5 (format 1), VPD 2.0 (format 2), Tiny
 //! EEPROM version 2 (format 3) and ONIE (format 4), and reads and writes the vendor blocks of an ONIE
-//! image. It is written from the scope document (01) and the change requests (02, items 1, 3, 4 and 5)
-//! alone, so that its answers can be compared with those of the library proper. Clarity comes before
+//! image. It is written from the scope document (01) and the change requests (02, items 1, 3, 4, 5
+//! and 6) alone, so that its answers can be compared with those of the library proper. Clarity comes before
 //! speed here.
 //!
 //! No call panics, whatever it is given, and a refused call leaves lent memory as it was.
@@ -77,6 +77,9 @@ pub struct Time {
 }
 
 /// One entry of an accepted image. All places count bytes of the image.
+///
+/// The frame is the whole entry: code, length bytes as they are stored, key and value. So `place` and
+/// `frame_len` together are where the next entry begins, or the image's end.
 #[derive(Clone, Copy, Debug, PartialEq, Eq)]
 pub struct Entry {
     pub code: u32,
@@ -86,6 +89,7 @@ pub struct Entry {
     pub key_len: u32,
     pub value_place: u32,
     pub value_len: u32,
+    pub frame_len: u32,
     pub reading: Reading,
 }
 

@@ -210,6 +210,9 @@ mod tests {
             named(Format::Onie, Edition::Three),
             [0x21, 0x22, 0x23, 0x24, 0x25, 0x2A, 0x2B, 0x2C, 0x2D, 0xFD]
         );
+        for format in [Format::Fboss, Format::Vpd, Format::Tiny, Format::Onie] {
+            assert_eq!(named(format, Edition::Four), named(format, Edition::Three));
+        }
     }
 
     #[test]

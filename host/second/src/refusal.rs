@@ -13,7 +13,7 @@ pub struct Refusal {
 #[derive(Clone, Copy, Debug, PartialEq, Eq)]
 #[repr(u32)]
 pub(crate) enum Reason {
-    /// The edition is not 1 to 3.
+    /// The edition is not 1 to 4.
     Edition = 1,
     /// The image, the output or the buffer for a payload is longer than 65,536 bytes.
     TooLong = 2,

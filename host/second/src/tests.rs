@@ -4,6 +4,7 @@ use crate::checks::{check16, check32, check8};
 use crate::*;
 
 mod dates;
+mod frame_lengths;
 mod onie;
 mod vendor;
 
@@ -13,7 +14,7 @@ const TINY: u32 = 3;
 const ONIE: u32 = 4;
 
 /// The editions that there are. All of them have FBOSS, VPD and Tiny.
-const EDITIONS: [u32; 3] = [1, 2, 3];
+const EDITIONS: [u32; 4] = [1, 2, 3, 4];
 
 /// One VPD entry with the key "SKU" and the value "A7".
 const SKU: [u8; 9] = [0x01, 0x03, 0x53, 0x4B, 0x55, 0x02, 0x41, 0x37, 0x00];
@@ -128,6 +129,8 @@ fn with_reading(
         key_len: 0,
         value_place,
         value_len,
+        // Without a key, the frame is what comes before the value, and the value.
+        frame_len: value_place - place + value_len,
         reading,
     }
 }
@@ -168,6 +171,7 @@ mod both_sides_of_each_line {
             key_len: 3,
             value_place: 6,
             value_len: 2,
+            frame_len: 8,
             reading: Reading::Plain,
         };
         for edition in EDITIONS {
@@ -243,11 +247,13 @@ mod both_sides_of_each_line {
         assert_eq!(program::output(&[2]), "refused 16 at 0\n");
         assert_eq!(program::output(&[2, 2]), "refused 5 at 0\n");
         assert_eq!(program::output(&[2, 0, 0]), "refused 1 at 0\n");
-        assert_eq!(program::output(&[2, 4, 0]), "refused 1 at 0\n");
-        assert_eq!(
-            program::output(&[2, 3, 0]),
-            "format 2 edition 3 entries 0\n"
-        );
+        assert_eq!(program::output(&[2, 5, 0]), "refused 1 at 0\n");
+        for edition in EDITIONS {
+            assert_eq!(
+                program::output(&[2, edition as u8, 0]),
+                format!("format 2 edition {edition} entries 0\n")
+            );
+        }
         assert_eq!(
             program::output(&[3, 1, 0x56, 0x02, 0x04, 0x6E]),
             "refused 10 at 3\n"
@@ -482,7 +488,7 @@ mod header_and_arguments {
     use super::*;
 
     const ALL_FORMATS: [u32; 8] = [0, 1, 2, 3, 4, 5, 260, u32::MAX];
-    const ALL_EDITIONS: [u32; 8] = [0, 1, 2, 3, 4, 9, 259, u32::MAX];
+    const ALL_EDITIONS: [u32; 10] = [0, 1, 2, 3, 4, 5, 9, 259, 260, u32::MAX];
 
     #[test]
     fn format_then_edition_then_length() {
@@ -492,7 +498,7 @@ mod header_and_arguments {
             for edition in ALL_EDITIONS {
                 let first = match (format, edition) {
                     (0 | 5.., _) => 16,
-                    (_, 0 | 4..) => 1,
+                    (_, 0 | 5..) => 1,
                     (4, 1 | 2) => 16,
                     _ => 2,
                 };
@@ -587,7 +593,7 @@ mod frames_of_images {
     fn check_fboss(entries: &[u8]) -> Result<usize, Refusal> {
         let image = [&[0xFB, 0xFB, 0x05, 0xFF], entries].concat();
         let results = EDITIONS.map(|edition| check(FBOSS, edition, &image));
-        assert_eq!(results, [results[0]; 3]);
+        assert_eq!(results, [results[0]; EDITIONS.len()]);
         results[0]
     }
 
@@ -645,7 +651,7 @@ mod frames_of_images {
 
     fn check_vpd(image: &[u8]) -> Result<usize, Refusal> {
         let results = EDITIONS.map(|edition| check(VPD, edition, image));
-        assert_eq!(results, [results[0]; 3]);
+        assert_eq!(results, [results[0]; EDITIONS.len()]);
         results[0]
     }
 
@@ -716,7 +722,7 @@ mod frames_of_images {
 
     fn check_tiny(entries: &[u8]) -> Result<usize, Refusal> {
         let results = EDITIONS.map(|edition| check(TINY, edition, &tiny(entries)));
-        assert_eq!(results, [results[0]; 3]);
+        assert_eq!(results, [results[0]; EDITIONS.len()]);
         results[0]
     }
 
@@ -1257,6 +1263,7 @@ mod vpd_names {
             key_len: 8,
             value_place: 11,
             value_len: 2,
+            frame_len: 13,
             reading: Reading::Plain,
         };
         for edition in EDITIONS {
@@ -1786,8 +1793,16 @@ mod drawn {
                             2 => self.bytes(4),
                             _ => vec![b'a' + self.below(8) as u8],
                         };
-                        entries.extend([code, key.len() as u8]);
+                        // Zero groups before a length, three at most.
+                        let [before_key, before_value] = [7, 7].map(|limit| {
+                            let groups = self.below(limit) as usize;
+                            vec![0x80; groups.saturating_sub(3)]
+                        });
+                        entries.push(code);
+                        entries.extend(before_key);
+                        entries.push(key.len() as u8);
                         entries.extend(key);
+                        entries.extend(before_value);
                         entries.push(4);
                         entries.extend((0..4).map(|_| self.byte()));
                     }
@@ -1874,13 +1889,14 @@ mod drawn {
             }
         }
         // The draw is of use only where it meets both answers often.
-        assert!(accepted > 10_000);
-        assert!(accepted < 90_000);
+        assert!(accepted > 13_000);
+        assert!(accepted < 120_000);
     }
 
     fn agree(draw: &mut Draw, format: u32, edition: u32, image: &[u8], count: usize) {
         let entries = list(format, edition, image, count).unwrap();
         assert_eq!(entries.len(), count);
+        frame_lengths::tile(format, edition, image);
         for (n, listed) in entries.iter().enumerate() {
             let n = n as u64;
             assert_eq!(entry(format, edition, image, n), Ok(*listed));
@@ -1896,6 +1912,7 @@ mod drawn {
             // No value of a 01h is wrong, whatever its key.
             assert!(made.is_ok() || (format, listed.code) != (VPD, 1));
             if let Ok(made) = made {
+                frame_lengths::tile(format, edition, &made);
                 let after = list(format, edition, &made, count).unwrap();
                 assert_eq!(after.len(), count);
                 for (m, (old, after)) in entries.iter().zip(&after).enumerate() {
@@ -1931,6 +1948,7 @@ mod drawn {
                 return;
             }
             let made = made.unwrap();
+            frame_lengths::tile(format, edition, &made);
             let after = list(format, edition, &made, count).unwrap();
             for (old, after) in entries.iter().zip(&after) {
                 assert_eq!((after.kind, after.reading), (old.kind, old.reading));
@@ -1947,19 +1965,21 @@ mod drawn {
         )
     }
 
-    /// Edition 3 names nothing new in the older formats (02, ONIE images and edition 3).
+    /// Edition 3 names nothing new in the older formats (02, ONIE images and edition 3), and edition 4
+    /// nothing new in any. It gives word 7 of a record besides (02, Entries remember their whole frame).
     #[test]
-    fn edition_three_is_edition_two_in_the_older_formats() {
+    fn editions_three_and_four_name_nothing_new() {
         let mut draw = Draw(0x2545_F491_4F6C_DD1D);
-        for round in 0..15_000 {
-            let format = 1 + round % 3;
+        for round in 0..20_000 {
+            let format = 1 + round % 4;
             let image = draw.image(format);
             let value = draw.bytes(12);
             let n = draw.below(5);
             let codes = match format {
                 FBOSS => [1, 8, 9, 10, 11, 20, 21, 13],
                 VPD => [1, 1, 1, 1, 0xFE, 0xFE, 2, 1],
-                _ => [0x10, 0x11, 0x60, 0x61, 0x80, 0x81, 0x01, 0x12],
+                TINY => [0x10, 0x11, 0x60, 0x61, 0x80, 0x81, 0x01, 0x12],
+                _ => [0x21, 0x24, 0x2A, 0x2D, 0xFD, 0xFD, 0x26, 0x21],
             };
             let fields: Vec<u8> = (0..draw.below(8) as usize)
                 .flat_map(|field| {
@@ -1990,7 +2010,24 @@ mod drawn {
                 let moved = walk.split_off(8);
                 (answers, [records, record, stepped, moved, edited, written])
             };
-            assert_eq!(all(2), all(3));
+            if format != ONIE {
+                assert_eq!(all(2), all(3));
+            }
+            let (answers, [mut records, mut record, mut stepped, rest @ ..]) = all(4);
+            let given = match answers[1] >> 59 {
+                0 => (answers[1] >> 32) as usize,
+                _ => 0,
+            };
+            let records_given = records.chunks_mut(64).take(given);
+            let one_each = [(&mut record, answers[2]), (&mut stepped, answers[5])];
+            let one_each = one_each.into_iter().filter(|(_, answer)| answer >> 59 == 0);
+            for record in records_given.chain(one_each.map(|(record, _)| &mut record[..])) {
+                assert!(record[28..32] != [0; 4]);
+                record[28..32].fill(0);
+            }
+            let [moved, edited, written] = rest;
+            let left = [records, record, stepped, moved, edited, written];
+            assert_eq!((answers, left), all(3));
         }
     }
 
@@ -1999,7 +2036,7 @@ mod drawn {
         let mut draw = Draw(0x0123_4567_89AB_CDEF);
         for _ in 0..20_000 {
             let format = draw.below(6) as u32;
-            let edition = draw.below(5) as u32;
+            let edition = draw.below(6) as u32;
             let image = draw.image(format.clamp(1, 4));
             let fields = draw.bytes(90);
             let values = draw.bytes(30);

@@ -790,7 +790,8 @@ fn byte_form() {
     };
     let image = fboss_with(b"20240229");
     for edition in EDITIONS {
-        let expected = [13, 269, 19, 21, 0, 21, 8, 0, 8, 2024, 2, 29, 0, 0, 0, 0];
+        let frame = if edition < 4 { 0 } else { 10 };
+        let expected = [13, 269, 19, 21, 0, 21, 8, frame, 8, 2024, 2, 29, 0, 0, 0, 0];
         let mut record = [0xA5; 64];
         assert_eq!(
             bytes::entry(FBOSS, edition, &image, 5, &mut record),

@@ -126,7 +126,7 @@ mod known {
 
     #[test]
     fn an_unknown_edition_is_that() {
-        for edition in [0, 4, 9, 257, 259, u32::MAX] {
+        for edition in [0, 5, 9, 257, 259, 260, u32::MAX] {
             for image in [&EMPTY[..], SWITCH, b"", &[0; 65_537]] {
                 all_refuse(edition, image, 1, 0);
             }
@@ -152,7 +152,7 @@ mod known {
 
     #[test]
     fn no_strings_in_any_edition() {
-        for edition in [0, 1, 2, 3, 4, 9] {
+        for edition in [0, 1, 2, 3, 4, 5, 9] {
             for image in [&EMPTY[..], b"", &[0; 65_537]] {
                 assert_eq!(string(ONIE, edition, image, 0), refused(16, 0));
             }
@@ -164,12 +164,14 @@ mod known {
         let output = |edition, image: &[u8]| program::output(&[&[4, edition], image].concat());
         assert_eq!(output(3, &EMPTY), "format 4 edition 3 entries 0\n");
         let one = image(b"\x2C\x02CZ");
-        assert_eq!(
-            output(3, &one),
-            "format 4 edition 3 entries 1\n0 1068 13 0 13 2\n"
-        );
+        for edition in [3, 4] {
+            assert_eq!(
+                output(edition, &one),
+                format!("format 4 edition {edition} entries 1\n0 1068 13 0 13 2\n")
+            );
+        }
         assert_eq!(output(2, &one), "refused 16 at 0\n");
-        assert_eq!(output(4, &one), "refused 1 at 0\n");
+        assert_eq!(output(5, &one), "refused 1 at 0\n");
         assert_eq!(output(3, &one[..11]), "refused 5 at 9\n");
     }
 }

@@ -438,7 +438,7 @@ mod refusals_in_order {
     fn of_a_read() {
         for (image, number, place) in images() {
             for format in [0, 1, 2, 3, 5, 255, 257, 260, 1 << 31, u32::MAX] {
-                for edition in [0, 1, 2, 3, 4, 9, u32::MAX] {
+                for edition in [0, 1, 2, 3, 4, 5, 9, u32::MAX] {
                     for rooms in [[24, 48], [0, 0], [65_537, 48]] {
                         let result = read_into(format, edition, &image, rooms);
                         assert_eq!(result, refused(16, 0));
@@ -447,10 +447,11 @@ mod refusals_in_order {
             }
             for (edition, first) in [
                 (0, 1),
-                (4, 1),
                 (5, 1),
+                (6, 1),
                 (257, 1),
                 (259, 1),
+                (260, 1),
                 (u32::MAX, 1),
                 (1, 16),
                 (2, 16),
@@ -511,11 +512,11 @@ mod refusals_in_order {
         for pieces in [&[24][..], &[], &[251]] {
             for room in [0, 100, 65_537] {
                 for format in [0, 1, 2, 3, 5, 257, 260, u32::MAX] {
-                    for edition in [0, 1, 2, 3, 4, u32::MAX] {
+                    for edition in [0, 1, 2, 3, 4, 5, u32::MAX] {
                         assert_eq!(result(format, edition, pieces, room), refused(16, 0));
                     }
                 }
-                for edition in [0, 4, 9, 257, 259, u32::MAX] {
+                for edition in [0, 5, 9, 257, 259, 260, u32::MAX] {
                     assert_eq!(result(ONIE, edition, pieces, room), refused(1, 0));
                 }
                 for edition in [1, 2] {
