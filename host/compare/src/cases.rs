@@ -5,6 +5,7 @@
 
 mod dates;
 mod decisions;
+mod frame_lengths;
 mod onie;
 mod scope;
 mod sources;
@@ -14,11 +15,12 @@ mod vpd_names;
 
 use crate::call::{walk_bytes, Call};
 use crate::comparison::{Comparison, RECORD};
+use crate::frames;
 
 pub type Group = fn(&mut Comparison);
 
 /// All fixed cases, in groups that can be compared side by side.
-pub const GROUPS: [(&str, Group); 47] = [
+pub const GROUPS: [(&str, Group); 54] = [
     (
         "01, Both sides of each line",
         scope::both_sides_of_each_line,
@@ -65,7 +67,17 @@ pub const GROUPS: [(&str, Group); 47] = [
     ("every time of ONIE dates", dates::times),
     ("every byte of dates", dates::every_byte),
     ("other forms of dates", dates::forms),
-    ("editions 2 and 3 alike", sweeps::editions_alike),
+    ("02, whole frames: known", frame_lengths::known),
+    ("02, whole frames: examples", frame_lengths::examples),
+    ("02, whole frames: edited", frame_lengths::edited),
+    ("every form of VPD lengths", frame_lengths::vpd_lengths),
+    (
+        "every form of VPD lengths, edited",
+        frame_lengths::vpd_edits,
+    ),
+    ("every length of a value", frame_lengths::value_lengths),
+    ("frames of generated images", frame_lengths::generated),
+    ("editions alike", sweeps::editions_alike),
     ("every format and edition", sweeps::every_format_and_edition),
     ("every length", sweeps::every_length),
     ("every byte of an FBOSS image", sweeps::fboss_bytes),
@@ -82,8 +94,8 @@ const VPD: u32 = 2;
 const TINY: u32 = 3;
 const ONIE: u32 = 4;
 
-/// The editions that there are. All of them have FBOSS, VPD and Tiny, and the last has ONIE.
-const EDITIONS: [u32; 3] = [1, 2, 3];
+/// The editions that there are. All of them have FBOSS, VPD and Tiny, and the last two have ONIE.
+const EDITIONS: [u32; 4] = [1, 2, 3, 4];
 
 fn refused(number: u64, place: u64) -> u64 {
     number << 59 | place
@@ -104,7 +116,17 @@ fn bytes(text: &str) -> Vec<u8> {
         .collect()
 }
 
-/// A record from its words. Those that are not given are 0.
+/// A record as an edition gives it, from one with the length of the whole frame in word 7: up to edition 3
+/// that word is 0.
+fn in_edition(edition: u32, record: &[u8]) -> Vec<u8> {
+    let mut record = record.to_vec();
+    if edition < frames::SINCE {
+        frames::put_word(&mut record, 7, 0);
+    }
+    record
+}
+
+/// A record from its words, the length of the whole frame among them. Those that are not given are 0.
 fn record(words: &[u32]) -> Vec<u8> {
     let mut bytes: Vec<u8> = words.iter().flat_map(|word| word.to_le_bytes()).collect();
     bytes.resize(RECORD, 0);
@@ -137,9 +159,13 @@ fn checked_in(compare: &mut Comparison, format: u32, edition: u32, image: &str, 
     }
 }
 
-/// The list of an image, record by record.
+/// The list of an image, record by record, each with the length of its frame.
 fn listed(compare: &mut Comparison, call: &Call, what: &str, records: &[Vec<u8>]) {
     compare.next_case();
+    let records = records
+        .iter()
+        .map(|record| in_edition(call.edition, record));
+    let records: Vec<Vec<u8>> = records.collect();
     let count = records.len();
     let all = records.concat();
     compare.case(what, call, given(count), None);

@@ -2,8 +2,9 @@
 
 use std::collections::BTreeMap;
 
-use crate::call::{count, refusal, told, Call, Kind, NAMES};
+use crate::call::{count, refusal, told, walk_bytes, Call, Kind, NAMES};
 use crate::crash::{self, Input};
+use crate::frames;
 use crate::lent::{filled, Layout, Lent};
 
 /// How long a record is, in bytes.
@@ -11,6 +12,12 @@ pub const RECORD: usize = 64;
 
 /// The length in bytes of the block of a vendor read.
 pub const BLOCK: usize = 48;
+
+/// The newest edition.
+const NEWEST: u32 = 4;
+
+/// The format that the first editions do not have.
+const ONIE: u32 = 4;
 
 /// A part with more bytes than this is not shown in full.
 const SHOWN: usize = 1 << 20;
@@ -271,11 +278,16 @@ impl Comparison {
             &beside,
         );
 
+        if let Some(what) = wrong_frames(call, from_library, lent_room.bytes()) {
+            wrong.push(format!("by the image's bytes: {what}"));
+        }
+
         if !wrong.is_empty() {
             let wrong = wrong.join("\n  ");
             self.differs(call, &wrong, from_library, answer);
         }
         self.count(call, answer, &room);
+        self.frames_of_output(call, from_library, lent_room.bytes());
         Left {
             answer,
             room: Written {
@@ -289,8 +301,52 @@ impl Comparison {
         }
     }
 
+    /// Lists what a write or an edit of the library made, as the newest edition: the whole output, and its
+    /// part up to the length given. What an older edition made may be an image that the newest refuses.
+    fn frames_of_output(&mut self, call: &Call, answer: u64, out: &[u8]) {
+        if refusal(answer) != 0 || !matches!(call.kind, Kind::Write | Kind::Edit) {
+            return;
+        }
+        let mut images = vec![out];
+        images.extend(
+            out.get(..count(answer))
+                .filter(|part| part.len() < out.len()),
+        );
+        for image in images {
+            if let Ok(entries) = second::check(call.format, NEWEST, image) {
+                let check = Call::check(call.format, NEWEST, image);
+                self.compared(&check.list(entries * RECORD));
+            }
+        }
+    }
+
     /// Makes a call whose answer is known from a document, and what it writes where that is given.
+    ///
+    /// Edition 4 names what edition 3 names, so a case of ONIE in edition 3 is one in edition 4 too, where
+    /// a record has the length of the frame besides.
     pub fn case(&mut self, what: &str, call: &Call, answer: u64, written: Option<&[u8]>) {
+        self.case_in_one(what, call, answer, written);
+        let (format, edition) = format_and_edition(call);
+        if (format, edition) != (ONIE, 3) {
+            return;
+        }
+        let mut written = written.map(<[u8]>::to_vec);
+        if let (Some(records), Kind::List | Kind::Entry | Kind::Step) = (&mut written, call.kind) {
+            frames::put_lengths(format, call.read[0], records);
+        }
+        let mut walk = call.walk.to_vec();
+        if call.kind == Kind::Step {
+            frames::put_word(&mut walk, 1, NEWEST);
+        }
+        let newest = Call {
+            edition: NEWEST,
+            walk: &walk,
+            ..*call
+        };
+        self.case_in_one(what, &newest, answer, written.as_deref());
+    }
+
+    fn case_in_one(&mut self, what: &str, call: &Call, answer: u64, written: Option<&[u8]>) {
         let (given, room) = self.call(call);
         let told_otherwise = given != answer || written.is_some_and(|written| room != written);
         if told_otherwise {
@@ -304,7 +360,17 @@ impl Comparison {
 
     /// Makes a vendor call whose answer is known from a document, and what it puts at the front of what
     /// it is lent: of a read the payload and the block, of a write the values. Bytes past them stay.
+    /// A case of edition 3 is one of edition 4 too.
     pub fn vendor_case(&mut self, what: &str, call: &Call, answer: u64, written: [&[u8]; 2]) {
+        self.vendor_case_in_one(what, call, answer, written);
+        if (call.format, call.edition) == (ONIE, 3) {
+            let edition = NEWEST;
+            let newest = Call { edition, ..*call };
+            self.vendor_case_in_one(what, &newest, answer, written);
+        }
+    }
+
+    fn vendor_case_in_one(&mut self, what: &str, call: &Call, answer: u64, written: [&[u8]; 2]) {
         let left = self.compared(call);
         let parts = [&left.room, &left.beside].into_iter().zip(written);
         let as_written = parts.clone().all(|(part, front)| part.has_front(front));
@@ -315,6 +381,49 @@ impl Comparison {
                 wrong += &format!("\n  and writes {front}\n  not {}", hex(&part.after));
             }
             self.differs(call, &wrong, left.answer, left.answer);
+        }
+    }
+
+    /// Lists an image whose frames are known, by their lengths from the header on, and gives each entry and
+    /// takes each step.
+    pub fn frames_case(&mut self, what: &str, check: &Call, lengths: &[usize]) {
+        let mut place = frames::header(check.format);
+        let frames: Vec<[u32; 2]> = lengths
+            .iter()
+            .map(|&length| {
+                let first = place;
+                place += length;
+                let shown = if check.edition < frames::SINCE {
+                    0
+                } else {
+                    length
+                };
+                [first as u32, shown as u32]
+            })
+            .collect();
+        let walks: Vec<_> = (0..frames.len() as u64)
+            .map(|n| walk_bytes(check.format, check.edition, n))
+            .collect();
+        let mut calls = vec![(check.list(frames.len() * RECORD), &frames[..])];
+        for ((n, walk), frame) in (0..).zip(&walks).zip(frames.chunks(1)) {
+            calls.push((check.entry(n, RECORD), frame));
+            calls.push((check.step(walk, RECORD), frame));
+        }
+        for (call, frames) in calls {
+            let (answer, room) = self.call(&call);
+            let records = room.chunks_exact(RECORD);
+            let given: Vec<_> = records
+                .map(|record| [2, 7].map(|number| frames::word(record, number)))
+                .collect();
+            if answer != (frames.len() as u64) << 32 || given != frames {
+                let wrong = format!(
+                    "the case '{what}' has frames (place, word 7) {frames:?}\n  not {given:?}"
+                );
+                self.differs(&call, &wrong, answer, answer);
+            }
+        }
+        if frames::end(check.format, check.read[0]) != Some(place) {
+            self.differs(check, &format!("the case '{what}' ends at {place}"), 0, 0);
         }
     }
 
@@ -364,6 +473,32 @@ impl Comparison {
         text += &format!("  library        {}\n", told(library));
         text += &format!("  second reader  {}", told(second));
         self.difference = Some((self.tally.inputs, text));
+    }
+}
+
+/// The format and the edition of a call. Those of a step are in the walk, where it is whole.
+fn format_and_edition(call: &Call) -> (u32, u32) {
+    match (call.kind, call.walk.get(..16)) {
+        (Kind::Step, Some(walk)) => (frames::word(walk, 0), frames::word(walk, 1)),
+        (Kind::Step, None) => (0, 0),
+        _ => (call.format, call.edition),
+    }
+}
+
+/// What is wrong with the frames of the records that the library gave, by the image's bytes alone.
+fn wrong_frames(call: &Call, answer: u64, room: &[u8]) -> Option<String> {
+    if refusal(answer) != 0 {
+        return None;
+    }
+    let (format, edition) = format_and_edition(call);
+    let image = call.read[0];
+    let mut records = room.chunks_exact(RECORD).take(count(answer));
+    match call.kind {
+        Kind::List => frames::wrong_list(format, edition, image, records),
+        Kind::Entry | Kind::Step => {
+            records.find_map(|record| frames::wrong_record(format, edition, image, record))
+        }
+        _ => None,
     }
 }
 

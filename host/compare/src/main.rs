@@ -12,6 +12,7 @@ mod call;
 mod cases;
 mod comparison;
 mod crash;
+mod frames;
 mod lent;
 mod plan;
 

@@ -12,7 +12,7 @@ use crate::comparison::{Comparison, BLOCK, RECORD};
 
 /// Formats and editions that are none, beside those that are.
 const FORMATS: [u32; 11] = [0, 1, 2, 3, 4, 5, 257, 258, 259, 260, u32::MAX];
-const EDITIONS: [u32; 9] = [0, 1, 2, 3, 4, 257, 258, 259, u32::MAX];
+const EDITIONS: [u32; 11] = [0, 1, 2, 3, 4, 5, 257, 258, 259, 260, u32::MAX];
 
 /// An image with more entries than this, or longer, is called on less often.
 const MANY: usize = 40;
@@ -243,7 +243,8 @@ fn vendor_read_of_any(compare: &mut Comparison, random: &mut Random, image: &[u8
 pub fn on_writing(compare: &mut Comparison, random: &mut Random, writing: &Writing) {
     let pieces = writing.piece_bytes();
     let (serial, offsets) = (&writing.serial, writing.offsets);
-    let call = Call::vendor_write(Format::Onie.number(), 3, serial, offsets, &pieces, 0);
+    let edition = random.pick(Format::Onie.editions());
+    let call = Call::vendor_write(Format::Onie.number(), edition, serial, offsets, &pieces, 0);
     into_outputs(compare, random, &call);
     read_back(compare, random, writing, &call);
     let (format, edition) = any_format_and_edition(random, Format::Onie);

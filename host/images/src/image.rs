@@ -48,8 +48,8 @@ impl Format {
     /// The editions that have the format.
     pub fn editions(self) -> &'static [u32] {
         match self {
-            Format::Fboss | Format::Vpd | Format::Tiny => &[1, 2, 3],
-            Format::Onie => &[3],
+            Format::Fboss | Format::Vpd | Format::Tiny => &[1, 2, 3, 4],
+            Format::Onie => &[3, 4],
         }
     }
 }

@@ -94,7 +94,17 @@ impl Dated {
         let [place, length] = [self.place, value.len()].map(|number| number as u32);
         let (code, value_place) = (u32::from(self.code), place + 2);
         let kind = self.format.number() * 256 + code;
-        let head = [code, kind, place, value_place, 0, value_place, length, 0];
+        let frame = 2 + length;
+        let head = [
+            code,
+            kind,
+            place,
+            value_place,
+            0,
+            value_place,
+            length,
+            frame,
+        ];
         let reading = match self.format {
             Format::Fboss => fboss_reading(value),
             _ => onie_reading(value),
@@ -118,7 +128,7 @@ impl Dated {
             let edit = Call::check(format, edition, &old).edit(n, value, length);
             let write = Call::write(format, edition, &fields, &list.values, length);
             if is_date {
-                let record = self.record(value);
+                let record = in_edition(edition, &self.record(value));
                 let part = part(self.place as u64 + 2, value.len() as u64);
                 let back = check.edit(n, self.old, old.len());
                 compare.case(what, &check, given(count), None);
@@ -222,23 +232,25 @@ pub fn examples(compare: &mut Comparison) {
     for edition in EDITIONS {
         let image = FBOSS_DATE.image(b"20240229");
         let records = [
-            record(&[1, 257, 4, 6, 0, 6, 1, 0, 1]),
-            record(&[8, 264, 7, 9, 0, 9, 1, 0, 2, 4]),
-            record(&[9, 265, 10, 12, 0, 12, 1, 0, 2, 5]),
-            record(&[10, 266, 13, 15, 0, 15, 1, 0, 2, 6]),
-            record(&[11, 267, 16, 18, 0, 18, 1, 0, 1]),
-            record(&[13, 269, 19, 21, 0, 21, 8, 0, 8, 2024, 2, 29]),
-            record(&[12, 268, 29, 31, 0, 31, 8, 0, 1]),
+            record(&[1, 257, 4, 6, 0, 6, 1, 3, 1]),
+            record(&[8, 264, 7, 9, 0, 9, 1, 3, 2, 4]),
+            record(&[9, 265, 10, 12, 0, 12, 1, 3, 2, 5]),
+            record(&[10, 266, 13, 15, 0, 15, 1, 3, 2, 6]),
+            record(&[11, 267, 16, 18, 0, 18, 1, 3, 1]),
+            record(&[13, 269, 19, 21, 0, 21, 8, 10, 8, 2024, 2, 29]),
+            record(&[12, 268, 29, 31, 0, 31, 8, 10, 1]),
         ];
         let check = Call::check(FBOSS, edition, &image);
         listed(compare, &check, "an FBOSS date", &records);
     }
     let image = ONIE_DATE.image(b"02/29/2024 23:58:59");
-    let date = [0x25, 1061, 17, 19, 0, 19, 19, 0, 9, 2024, 2, 29, 23, 58, 59];
+    let date = [
+        0x25, 1061, 17, 19, 0, 19, 19, 21, 9, 2024, 2, 29, 23, 58, 59,
+    ];
     let records = [
-        record(&[0x21, 1057, 11, 13, 0, 13, 4, 0, 1]),
+        record(&[0x21, 1057, 11, 13, 0, 13, 4, 6, 1]),
         record(&date),
-        record(&[0x23, 1059, 38, 40, 0, 40, 19, 0, 1]),
+        record(&[0x23, 1059, 38, 40, 0, 40, 19, 21, 1]),
     ];
     let check = Call::check(ONIE, 3, &image);
     listed(compare, &check, "an ONIE date", &records);
@@ -404,14 +416,15 @@ pub fn leap_days(compare: &mut Comparison) {
                     0 => century % 4 == 0,
                     rest => rest % 4 == 0,
                 };
-            let edition = EDITIONS[year % EDITIONS.len()];
+            // Every edition has leap years.
+            let edition = EDITIONS[(year + year / 4) % EDITIONS.len()];
             let date = fboss_text([year, 2, 29]);
             let image = FBOSS_DATE.image(&date);
             let list = FBOSS_DATE.fields(&date);
             let fields = list.bytes();
             let check = Call::check(FBOSS, edition, &image);
             let write = Call::write(FBOSS, edition, &fields, &list.values, image.len());
-            let record = FBOSS_DATE.record(&date);
+            let record = in_edition(edition, &FBOSS_DATE.record(&date));
             if leap {
                 compare.case("leap day", &check.entry(5, RECORD), given(1), Some(&record));
                 compare.case("leap day", &write, given(image.len()), Some(&image));
@@ -425,7 +438,7 @@ pub fn leap_days(compare: &mut Comparison) {
             let old = ONIE_DATE.image(ONIE_DATE.old);
             let edit = Call::check(ONIE, 3, &old).edit(1, &date, old.len());
             let entry = Call::check(ONIE, 3, &image).entry(1, RECORD);
-            let record = ONIE_DATE.record(&date);
+            let record = in_edition(3, &ONIE_DATE.record(&date));
             if leap {
                 compare.case("leap day", &entry, given(1), Some(&record));
                 compare.case("leap day", &edit, given(old.len()), Some(&image));

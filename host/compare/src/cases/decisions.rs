@@ -17,7 +17,7 @@ pub fn on_reading(compare: &mut Comparison) {
         compare,
         &check,
         "D1",
-        &[record(&[0xFE, 766, 0, 2, 0, 3, 4])],
+        &[record(&[0xFE, 766, 0, 2, 0, 3, 4, 7])],
     );
 
     let sku = bytes(SKU);
@@ -87,8 +87,8 @@ pub fn on_reading(compare: &mut Comparison) {
     let one_key = bytes("01 01 41 00 FE 01 41 04 01 02 03 04 00");
     let check = Call::check(VPD, 2, &one_key);
     let records = [
-        record(&[1, 513, 0, 2, 1, 4, 0]),
-        record(&[0xFE, 766, 4, 6, 1, 8, 4]),
+        record(&[1, 513, 0, 2, 1, 4, 0, 4]),
+        record(&[0xFE, 766, 4, 6, 1, 8, 4, 8]),
     ];
     listed(compare, &check, "D17", &records);
 
@@ -135,7 +135,7 @@ pub fn on_reading(compare: &mut Comparison) {
         (259, 1, 16),
         (3, 9, 1),
         (3, 0, 1),
-        (3, 4, 1),
+        (3, 5, 1),
     ] {
         let call = Call::check(format, edition, &sku).string(0);
         compare.case("D19", &call, refused(answer, 0), None);
@@ -416,28 +416,28 @@ pub fn largest_images(compare: &mut Comparison) {
             Format::Fboss,
             fboss::filling(&mut random, LONGEST, 0),
             32_762,
-            1..=3,
+            1..=4,
         ),
         (Format::Vpd, vpd::shortest(LONGEST), 21_845, 1..=1),
         (
             Format::Vpd,
             vpd::filling(&mut random, Rule::Reader, LONGEST, 0),
             13_158,
-            1..=3,
+            1..=4,
         ),
-        (Format::Vpd, mixed, 13_158, 1..=3),
+        (Format::Vpd, mixed, 13_158, 1..=4),
         (
             Format::Vpd,
             vpd::filling(&mut random, Rule::Writer, LONGEST, 0),
             11_605,
-            1..=3,
+            1..=4,
         ),
-        (Format::Tiny, tiny::shortest(&mut random), 125, 1..=3),
+        (Format::Tiny, tiny::shortest(&mut random), 125, 1..=4),
         (
             Format::Onie,
             onie::filling(&mut random, ONIE_LONGEST, 0),
             1_021,
-            3..=3,
+            3..=4,
         ),
     ];
     for (format, entries, count, editions) in images {

@@ -171,7 +171,8 @@ fn record_of(code: u8, place: usize, length: usize, reading: &[u32]) -> Vec<u8> 
         true => 1024 + code,
         false => 0,
     };
-    let words = [&[code, kind, place, value, 0, value, length, 0], reading].concat();
+    let head = [code, kind, place, value, 0, value, length, 2 + length];
+    let words = [&head[..], reading].concat();
     record(&words)
 }
 
@@ -200,14 +201,15 @@ pub fn known(compare: &mut Comparison) {
         (0, 1),
         (1, 16),
         (2, 16),
-        (4, 1),
         (5, 1),
+        (6, 1),
         (9, 1),
         (255, 1),
         (256, 1),
         (257, 1),
         (258, 1),
         (259, 1),
+        (260, 1),
         (u32::MAX, 1),
     ] {
         for image in [&bytes(EMPTY)[..], SWITCH, b"", b"TlvInfo", &long] {
@@ -230,7 +232,7 @@ pub fn known(compare: &mut Comparison) {
             }
         }
     }
-    for edition in [3, 4, 9] {
+    for edition in [3, 4, 5, 9] {
         compare.next_case();
         for format in [0, 5, 260, u32::MAX] {
             let check = Call::check(format, edition, SWITCH);
@@ -262,7 +264,7 @@ pub fn known(compare: &mut Comparison) {
     let write = |room| Call::write(ONIE, 3, &fields, &list.values, room);
     compare.case("too long", &write(LONGEST + 1), refused(2, 0), None);
     compare.case("longest", &write(LONGEST), given(23), None);
-    for edition in [0, 1, 2, 3, 4, 9] {
+    for edition in [0, 1, 2, 3, 4, 5, 9] {
         for image in [&bytes(EMPTY)[..], b"", &long] {
             let string = Call::check(ONIE, edition, image).string(0);
             compare.case("string", &string, refused(16, 0), None);

@@ -18,7 +18,7 @@ pub fn both_sides_of_each_line(compare: &mut Comparison) {
     let sku = bytes(SKU);
     for edition in EDITIONS {
         let check = Call::check(VPD, edition, &sku);
-        let sku_record = record(&[1, 513, 0, 2, 3, 6, 2]);
+        let sku_record = record(&[1, 513, 0, 2, 3, 6, 2, 8]);
         listed(compare, &check, SKU, &[sku_record]);
     }
 
@@ -27,14 +27,14 @@ pub fn both_sides_of_each_line(compare: &mut Comparison) {
     let long_key_length = bytes("01 80 01 41 00 00");
     for edition in EDITIONS {
         let check = Call::check(VPD, edition, &long_key_length);
-        let one = record(&[1, 513, 0, 3, 1, 5, 0]);
+        let one = record(&[1, 513, 0, 3, 1, 5, 0, 5]);
         listed(compare, &check, "01 80 01 41 00 00", &[one]);
     }
     checked(compare, VPD, "01 01 41 00 01 01 41 00 00", refused(8, 4));
 
     let info = bytes("FE 01 41 03 01 02 03 00");
     let check = Call::check(VPD, 1, &info);
-    let unnamed = record(&[0xFE, 0, 0, 2, 1, 4, 3]);
+    let unnamed = record(&[0xFE, 0, 0, 2, 1, 4, 3, 7]);
     listed(compare, &check, "FE in edition 1", &[unnamed]);
     checked_in(compare, VPD, 2, "FE 01 41 03 01 02 03 00", refused(7, 0));
 
@@ -91,8 +91,8 @@ pub fn every_tag(compare: &mut Comparison) {
             _ => 768 + code,
         };
         let mut records = vec![
-            record(&[0x10, kind(0x10), 3, 4, 0, 4, 1, 0, 4, 2]),
-            record(&[0x11, kind(0x11), 5, 6, 0, 6, 1, 0, 5, 0xF5, 2]),
+            record(&[0x10, kind(0x10), 3, 4, 0, 4, 1, 2, 4, 2]),
+            record(&[0x11, kind(0x11), 5, 6, 0, 6, 1, 2, 5, 0xF5, 2]),
             record(&[
                 0x60,
                 kind(0x60),
@@ -101,7 +101,7 @@ pub fn every_tag(compare: &mut Comparison) {
                 0,
                 8,
                 6,
-                0,
+                7,
                 3,
                 0x0211,
                 0x2233_4455,
@@ -115,7 +115,7 @@ pub fn every_tag(compare: &mut Comparison) {
                 0,
                 15,
                 6,
-                0,
+                7,
                 6,
                 0,
                 1,
@@ -132,7 +132,7 @@ pub fn every_tag(compare: &mut Comparison) {
                 0,
                 22,
                 6,
-                0,
+                7,
                 6,
                 1,
                 0,
@@ -144,21 +144,21 @@ pub fn every_tag(compare: &mut Comparison) {
         ];
         match edition {
             1 => {
-                records.push(record(&[0x80, 0, 28, 29, 0, 29, 8]));
-                records.push(record(&[0x81, 0, 37, 38, 0, 38, 8]));
+                records.push(record(&[0x80, 0, 28, 29, 0, 29, 8, 9]));
+                records.push(record(&[0x81, 0, 37, 38, 0, 38, 8, 9]));
             }
             _ => {
                 let batch = [
-                    0x80, 896, 28, 29, 0, 29, 8, 0, 7, 0, 1, 153, 7, 0x63, 0x64, 9999,
+                    0x80, 896, 28, 29, 0, 29, 8, 9, 7, 0, 1, 153, 7, 0x63, 0x64, 9999,
                 ];
                 records.push(record(&batch));
                 let batch = [
-                    0x81, 897, 37, 38, 0, 38, 8, 0, 7, 2, 2, 0, 99, 0x65, 0x66, 0x1234,
+                    0x81, 897, 37, 38, 0, 38, 8, 9, 7, 2, 2, 0, 99, 0x65, 0x66, 0x1234,
                 ];
                 records.push(record(&batch));
             }
         }
-        records.push(record(&[0x01, kind(0x01), 46, 48, 0, 48, 9]));
+        records.push(record(&[0x01, kind(0x01), 46, 48, 0, 48, 9, 11]));
         let check = Call::check(TINY, edition, &image);
         listed(compare, &check, "every tag", &records);
 

@@ -99,7 +99,7 @@ fn fboss_example_records(edition: u32) -> Vec<Vec<u8>> {
     let mut records = Vec::new();
     for (code, (length, reading)) in (1..).zip(FBOSS_EXAMPLE) {
         let value = place + 2;
-        let mut words = vec![code, 256 + code, place, value, 0, value, length, 0];
+        let mut words = vec![code, 256 + code, place, value, 0, value, length, 2 + length];
         words.extend(reading);
         if edition == 1 && code > 16 {
             words.truncate(8);
@@ -175,9 +175,9 @@ pub fn vpd_example_image() -> Vec<u8> {
 pub fn vpd_example(compare: &mut Comparison) {
     let image = vpd_example_image();
     let records = [
-        record(&[1, 513, 0, 2, 4, 7, 16]),
-        record(&[1, 513, 23, 25, 7, 33, 14]),
-        record(&[1, 513, 47, 49, 12, 62, 6]),
+        record(&[1, 513, 0, 2, 4, 7, 16, 23]),
+        record(&[1, 513, 23, 25, 7, 33, 14, 24]),
+        record(&[1, 513, 47, 49, 12, 62, 6, 21]),
     ];
     let mut fields = List::default();
     fields.add(1, b"UUID", b"0123456789ABCDEF");

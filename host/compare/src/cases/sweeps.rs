@@ -4,12 +4,13 @@ use images::fields::List;
 use images::generate::{kept, named, offered, valid};
 use images::image::{seal, Entry, Format, Image, FORMATS, LONGEST};
 use images::random::Random;
-use images::{damage, fields};
+use images::{damage, fields, vendor};
 
 use super::onie::SWITCH;
 use super::scope::every_tag_image;
 use super::sources::{fboss_example_image, vpd_example_image};
 use super::*;
+use crate::call::Kind;
 use crate::comparison::BLOCK;
 use crate::plan;
 
@@ -63,6 +64,7 @@ pub fn every_format_and_edition(compare: &mut Comparison) {
                 257,
                 258,
                 259,
+                260,
                 1 << 16,
                 1 << 31,
                 u32::MAX,
@@ -144,8 +146,8 @@ pub fn onie_bytes(compare: &mut Comparison) {
 /// Edits of every entry of a small image: to every length, and with every value of each byte.
 pub fn values_of_edits(compare: &mut Comparison) {
     for (format, image) in small_images() {
-        let check = Call::check(format.number(), 3, &image);
-        let entries = second::list(check.format, 3, &image, usize::MAX).unwrap_or_default();
+        let check = Call::check(format.number(), 4, &image);
+        let entries = second::list(check.format, 4, &image, usize::MAX).unwrap_or_default();
         for (n, entry) in (0..).zip(&entries) {
             compare.next_case();
             for length in (0..=20).chain(125..=130).chain(240..=260) {
@@ -269,28 +271,40 @@ pub fn places_of_long_parts(compare: &mut Comparison) {
     }
 }
 
-/// Every call on generated images and field lists of the older formats, in which edition 3 gives and
-/// writes what edition 2 does.
+/// Every call on generated images and field lists: edition 3 gives and writes what edition 2 does in the
+/// formats that both have, and edition 4 what edition 3 does, but that its records have the lengths of
+/// their frames.
 pub fn editions_alike(compare: &mut Comparison) {
-    let alike = |compare: &mut Comparison, newer: &Call| {
-        let walk = walk_bytes(newer.format, 2, newer.n);
-        let older = match newer.walk {
-            [] => Call {
-                edition: 2,
-                ..*newer
-            },
-            _ => newer.step(&walk, newer.room),
-        };
-        let (answer, made) = compare.call(&older);
+    let alike = |compare: &mut Comparison, call: &Call, [older, newer]: [u32; 2]| {
+        let walks = [older, newer].map(|edition| walk_bytes(call.format, edition, call.n));
+        let [older_call, newer_call] = [(older, &walks[0]), (newer, &walks[1])].map(|with| {
+            let (edition, walk) = with;
+            let call = Call { edition, ..*call };
+            match call.walk {
+                [] => call,
+                _ => call.step(walk, call.room),
+            }
+        });
+        let (answer, mut made) = compare.call(&older_call);
+        if newer == 4 && matches!(call.kind, Kind::List | Kind::Entry | Kind::Step) {
+            frames::put_lengths(call.format, call.read[0], &mut made);
+        }
         // A refused call leaves what was there, which differs from call to call.
         let made = (answer >> 59 == 0).then_some(&made[..]);
-        compare.case("editions 2 and 3", newer, answer, made);
+        compare.case("editions alike", &newer_call, answer, made);
     };
-    for format in [Format::Fboss, Format::Vpd, Format::Tiny] {
+    for format in FORMATS {
+        let pairs = match format {
+            Format::Onie => &[[3, 4]][..],
+            _ => &[[2, 3], [3, 4]],
+        };
         for input in 0..300 {
             compare.next_case();
             let mut random = Random::of_input(2, format.number(), input);
-            let mut image = valid(&mut random, format);
+            let mut image = match format {
+                Format::Onie if input % 3 == 0 => vendor::amplifier(&mut random),
+                _ => valid(&mut random, format),
+            };
             image.after.truncate(20);
             let image = match random.below(3) {
                 0 => damage::damaged(&mut random, image),
@@ -298,33 +312,44 @@ pub fn editions_alike(compare: &mut Comparison) {
             };
             let check = Call::check(format.number(), 3, &image);
             let entries = second::list(format.number(), 3, &image, usize::MAX).unwrap_or_default();
-            alike(compare, &check);
-            alike(compare, &check.list(entries.len() * RECORD));
-            alike(
-                compare,
-                &check.list((entries.len() * RECORD).saturating_sub(1)),
-            );
-            for n in 0..=entries.len() as u64 {
-                let walk = walk_bytes(format.number(), 3, n);
-                let step = Call {
-                    n,
-                    ..check.step(&walk, RECORD)
-                };
-                alike(compare, &check.entry(n, RECORD));
-                alike(compare, &check.value(n));
-                alike(compare, &check.string(n));
-                alike(compare, &step);
-                let code = entries.get(n as usize).map_or(1, |entry| entry.code as u8);
-                let value = offered(&mut random, format, code);
-                alike(compare, &check.edit(n, &value, image.len() + 600));
+            let mut calls = vec![
+                check,
+                check.list(entries.len() * RECORD),
+                check.list((entries.len() * RECORD).saturating_sub(1)),
+            ];
+            if format == Format::Onie {
+                let payload = second::vendor_read(check.format, 3, &image, LONGEST);
+                let length = payload.map_or(24, |payload| payload.bytes.len());
+                calls.push(check.vendor_read(length, BLOCK));
+                calls.push(check.vendor_read(length - 1, BLOCK));
+            }
+            let walk = walk_bytes(0, 0, 0);
+            let numbers = 0..=entries.len() as u64;
+            let values: Vec<Vec<u8>> = numbers
+                .map(|n| {
+                    let code = entries.get(n as usize).map_or(1, |entry| entry.code as u8);
+                    offered(&mut random, format, code)
+                })
+                .collect();
+            for (n, value) in (0..).zip(&values) {
+                let step = check.step(&walk, RECORD);
+                calls.extend([
+                    check.entry(n, RECORD),
+                    check.value(n),
+                    check.string(n),
+                    Call { n, ..step },
+                    check.edit(n, value, image.len() + 600),
+                ]);
             }
             let list = fields::list(&mut random, format, 3);
             let (bytes, values) = (list.bytes(), &list.values);
             for room in [3_000, 40] {
-                alike(
-                    compare,
-                    &Call::write(format.number(), 3, &bytes, values, room),
-                );
+                calls.push(Call::write(format.number(), 3, &bytes, values, room));
+            }
+            for call in &calls {
+                for &pair in pairs {
+                    alike(compare, call, pair);
+                }
             }
         }
     }

@@ -137,12 +137,15 @@ pub fn known(compare: &mut Comparison) {
             257,
             258,
             259,
+            260,
             1 << 16 | 3,
             1 << 31 | 3,
+            1 << 16 | 4,
+            1 << 31 | 4,
             u32::MAX,
         ] {
             let number = match (format, edition) {
-                (4, 3) => continue,
+                (4, 3 | 4) => continue,
                 (4, 1 | 2) => 16,
                 (4, _) => 1,
                 _ => 16,

@@ -71,7 +71,16 @@ fn of_keys(keys: &[&[u8]]) -> Vec<u8> {
 /// The record of a named 01h whose lengths have one byte each.
 fn record_of(place: usize, key: &[u8], value: &[u8]) -> Vec<u8> {
     let [place, key, value] = [place, key.len(), value.len()].map(|number| number as u32);
-    record(&[1, 513, place, place + 2, key, place + 3 + key, value])
+    record(&[
+        1,
+        513,
+        place,
+        place + 2,
+        key,
+        place + 3 + key,
+        value,
+        3 + key + value,
+    ])
 }
 
 /// What every call refuses, in all editions.
@@ -91,7 +100,7 @@ pub fn read(compare: &mut Comparison) {
 
         let long_forms = b"\x01\x80\x80\x08lab.rack\x80\x02A7\xFFrest";
         let check = Call::check(VPD, edition, long_forms);
-        let lab = record(&[1, 513, 0, 4, 8, 14, 2]);
+        let lab = record(&[1, 513, 0, 4, 8, 14, 2, 16]);
         listed(compare, &check, "lab.rack, long forms", &[lab]);
 
         let all = of_keys(&UNWRITTEN);
