@@ -3,8 +3,8 @@
  *
  * It needs no second implementation: it holds the calls to what document 01 says of all of them,
  * and to each other. A call that is refused leaves lent memory as it was, an accepted write or edit
- * is read back, a list is what its entries say one by one, a date is a day, a payload is what the
- * vendor extensions of a list hold, and so on. Where something does not hold the program stops.
+ * is read back, a list is what its entries say one by one, each frame ends where the next entry or
+ * the end begins, a date is a day, a payload is what the vendor extensions of a list hold, and so on. Where something does not hold the program stops.
  *
  * An input is seven bytes, then the second part, then the first part:
  *
@@ -63,8 +63,8 @@ enum { CHECK, LIST, ENTRY, VALUE, STRING, STEP, WRITE, EDIT, VENDOR_READ, VENDOR
 #define PREFIX 5u
 
 static const uint32_t FORMATS[8] = {1, 2, 3, 0, 4, 257, 260, UINT32_MAX};
-static const uint32_t EDITIONS[8] = {1, 2, 0, 3, 4, 257, 259, UINT32_MAX};
-#define NEWEST 3u
+static const uint32_t EDITIONS[8] = {1, 2, 0, 3, 4, 5, 260, UINT32_MAX};
+#define NEWEST 4u
 static const uint8_t BLOCKS[16] = {48, 48, 48, 47, 0, 49, 60, 96, 1, 4, 16, 32, 44, 46, 64, 95};
 #define LONGEST_BLOCK 96u
 static const uint64_t NUMBERS[16] = {
@@ -257,6 +257,12 @@ static uint64_t make(const struct request *r, uint8_t *out, size_t out_len, uint
     counted(r->call, answer);
 
     unsigned number = refusal(answer);
+    int of_any_format = r->call != STRING && r->call != VENDOR_READ && r->call != VENDOR_WRITE;
+    if (of_any_format && (r->call != STEP || beside_len == WALK)) {
+        /* A format that there is, and an edition that there is not. */
+        int no_edition = r->edition < 1 || r->edition > NEWEST;
+        if (r->format >= 1 && r->format <= 4) HOLDS((number == 1) == no_edition);
+    }
     HOLDS(number <= (r->call == VENDOR_READ || r->call == VENDOR_WRITE ? 20 : 16));
     if (number != 0 && !(number >= 5 && number <= 10) && number != 14) {
         HOLDS(place(answer) == 0 || (r->call == WRITE && number == 13));
@@ -336,21 +342,44 @@ static void hold_reading(const uint8_t *image, const uint8_t *record) {
     HOLDS(numbers[3] <= 23 && numbers[4] <= 59 && numbers[5] <= 59);
 }
 
+/* The frames of a list: the entries begin after the header and lie without gaps, and the image's end is
+   right after the last. From edition 4 on a record has the length of its frame. */
+static void hold_frames(uint32_t format, uint32_t edition, const uint8_t *image, size_t len,
+                        const uint8_t *records, uint64_t entries) {
+    uint64_t at = header_of(format);
+    for (uint64_t i = 0; i < entries; i++) {
+        const uint8_t *record = records + i * RECORD;
+        HOLDS(word(record, 2) == at && word(record, 3) > word(record, 2));
+        HOLDS((uint64_t)word(record, 3) + word(record, 4) <= word(record, 5));
+        uint64_t end = (uint64_t)word(record, 5) + word(record, 6);
+        HOLDS(word(record, 7) == (edition < 4 ? 0 : end - at));
+        HOLDS(end < len);
+        at = end;
+    }
+    switch (format) {
+    case 1: HOLDS(at + 4 <= len && image[at] == 250 && image[at + 1] == 2); break;
+    case 2: HOLDS(at < len && (image[at] == 0x00 || image[at] == 0xFF)); break;
+    case 3: HOLDS(at + 1 == image[2] && image[2] <= len); break;
+    default:
+        /* The end and its check, and the declared length ends with them. */
+        HOLDS(at + 6 <= len && image[at] == 0xFE && image[at + 1] == 4);
+        HOLDS(at + 6 == 11 + ((uint64_t)image[9] << 8 | image[10]) && at + 6 <= 2059);
+        break;
+    }
+}
+
 /* An image that is accepted: its list, entry by entry, and those of the older editions. */
 static void hold_image(const struct request *r) {
     uint64_t entries, others;
+    /* Edition 4 names what edition 3 names. */
+    HOLDS(boardid_check(r->format, 4, r->first, r->first_len) ==
+          boardid_check(r->format, 3, r->first, r->first_len));
     uint8_t *records = listed(r->format, r->edition, r->first, r->first_len, &entries);
     if (records == NULL) return;
-    /* The entries begin after the header and lie without gaps. */
-    uint64_t end = header_of(r->format);
+    hold_frames(r->format, r->edition, r->first, r->first_len, records, entries);
     for (uint64_t i = 0; i < entries; i++) {
         const uint8_t *record = records + i * RECORD;
-        HOLDS(word(record, 2) == end && word(record, 3) > word(record, 2));
-        HOLDS((uint64_t)word(record, 3) + word(record, 4) <= word(record, 5));
-        end = (uint64_t)word(record, 5) + word(record, 6);
-        HOLDS(end <= r->first_len);
         HOLDS(word(record, 1) == 0 || word(record, 1) == r->format * 256 + word(record, 0));
-        HOLDS(word(record, 7) == 0);
         hold_reading(r->first, record);
         /* One by one is as slow as it sounds: a few are enough. */
         if (i < 8 || i + 2 > entries) {
@@ -360,19 +389,28 @@ static void hold_image(const struct request *r) {
             HOLDS(boardid_entry(r->format, r->edition, r->first, r->first_len, i, one, RECORD) ==
                   1ull << 32);
             HOLDS(same(one, record, RECORD));
+            uint8_t walk[WALK] = {0};
+            for (int k = 0; k < 4; k++) {
+                walk[k] = (uint8_t)(r->format >> 8 * k);
+                walk[4 + k] = (uint8_t)(r->edition >> 8 * k);
+                walk[8 + k] = (uint8_t)(i >> 8 * k);
+            }
+            HOLDS(boardid_step(walk, WALK, r->first, r->first_len, one, RECORD) == 1ull << 32);
+            HOLDS(same(one, record, RECORD));
         }
     }
     HOLDS(refusal(boardid_value(r->format, r->edition, r->first, r->first_len, entries)) == 13);
-    if (r->format == 4) {
-        /* The end and its check, and the declared length ends with them. */
-        HOLDS(end + 6 == 11 + ((uint64_t)r->first[9] << 8 | r->first[10]) && end + 6 <= 2059);
-    }
     for (uint32_t e = first_edition(r->format); e < r->edition; e++) {
         uint8_t *older = listed(r->format, e, r->first, r->first_len, &others);
         HOLDS(older != NULL && others == entries);
         hold_alike(r->first, records, r->first, older, entries, UINT64_MAX);
-        /* Edition 3 names nothing new in the formats that edition 2 has. */
-        if (e == 2) HOLDS(same(records, older, entries * RECORD));
+        hold_frames(r->format, e, r->first, r->first_len, older, entries);
+        /* Edition 3 names nothing new in the formats that edition 2 has, and edition 4 in none: the
+           records are the same but for the length of the frame. */
+        for (uint64_t i = 0; e >= 2 && i < entries; i++) {
+            const uint8_t *a = records + i * RECORD, *b = older + i * RECORD;
+            HOLDS(same(a, b, 28) && same(a + 32, b + 32, RECORD - 32));
+        }
         free(older);
     }
     free(records);
@@ -388,6 +426,16 @@ static uint8_t *hold_output(const struct request *r, const uint8_t *out, size_t 
     HOLDS(boardid_check(r->format, r->edition, out, len) == whole);
     /* No shorter beginning of the output is an image. */
     HOLDS(refusal(boardid_check(r->format, r->edition, out, len - 1)) != 0);
+    /* The frames of both, as every edition that accepts them. */
+    for (uint32_t e = first_edition(r->format); e <= NEWEST; e++) {
+        for (int part = 0; part < 2; part++) {
+            size_t image_len = part ? len : out_len;
+            uint8_t *records = listed(r->format, e, out, image_len, entries);
+            if (records == NULL) continue;
+            hold_frames(r->format, e, out, image_len, records, *entries);
+            free(records);
+        }
+    }
     return listed(r->format, r->edition, out, len, entries);
 }
 
