@@ -1,8 +1,10 @@
 //! Times the exports of libboardid.a against the second reader, call by call.
 //!
-//!     bench [--seconds N]
+//!     bench [--seconds N] [--edition E]
 //!
-//! Each row is timed for N seconds (default 0.5), library and second reader in turn, and gives the
+//! The calls are made with edition 2, and those of ONIE with edition 3, or all with the edition given: from
+//! edition 4 on, records have the lengths of their frames. Images of a format that it does not have are left
+//! out. Each row is timed for N seconds (default 0.5), library and second reader in turn, and gives the
 //! median time of a round. Buffers are made before the clock starts and are not cleared between calls.
 
 mod subjects;
@@ -185,24 +187,45 @@ fn has_row(subject: &Subject, timed: &Timed) -> bool {
     }
 }
 
-fn main() -> ExitCode {
-    let words: Vec<String> = std::env::args().skip(1).collect();
-    let seconds = match &words[..] {
-        [] => Some(0.5),
-        [option, seconds] if option == "--seconds" => seconds.parse().ok(),
-        _ => None,
+struct Options {
+    seconds: f64,
+    edition: Option<u32>,
+}
+
+/// What the command line asks for, or nothing where it is not understood.
+fn options() -> Option<Options> {
+    let mut options = Options {
+        seconds: 0.5,
+        edition: None,
     };
-    let Some(seconds) = seconds.filter(|&seconds: &f64| seconds > 0.0 && seconds < 3600.0) else {
-        eprintln!("usage: bench [--seconds N]");
+    let mut words = std::env::args().skip(1);
+    while let Some(option) = words.next() {
+        let number = words.next()?;
+        match option.as_str() {
+            "--seconds" => options.seconds = number.parse().ok()?,
+            "--edition" => options.edition = Some(number.parse().ok()?),
+            _ => return None,
+        }
+    }
+    (options.seconds > 0.0 && options.seconds < 3600.0).then_some(options)
+}
+
+fn main() -> ExitCode {
+    let Some(Options { seconds, edition }) = options() else {
+        eprintln!("usage: bench [--seconds N] [--edition E]");
         return ExitCode::from(2);
     };
 
     println!("| image | entries | call | library | second | library/second |");
     println!("|---|---:|---|---:|---:|---:|");
+    let limit = Duration::from_secs_f64(seconds);
     for subject in subjects::all() {
+        let edition = edition.unwrap_or(subject.edition());
+        if !subject.format.editions().contains(&edition) {
+            continue;
+        }
         for timed in CALLS.iter().filter(|timed| has_row(&subject, timed)) {
-            let Some((library, second)) = row(&subject, timed, Duration::from_secs_f64(seconds))
-            else {
+            let Some((library, second)) = row(&subject, edition, timed, limit) else {
                 println!(
                     "bench: {}, {}: refused or not alike",
                     subject.name, timed.name
@@ -226,8 +249,8 @@ fn main() -> ExitCode {
 
 /// The median times of a row, library and second reader, in seconds. Nothing where the two give
 /// different answers or leave different memory, or a call is refused.
-fn row(subject: &Subject, timed: &Timed, limit: Duration) -> Option<(f64, f64)> {
-    let (format, edition) = (subject.format.number(), subject.edition());
+fn row(subject: &Subject, edition: u32, timed: &Timed, limit: Duration) -> Option<(f64, f64)> {
+    let format = subject.format.number();
     let rooms = || -> Vec<Vec<u8>> {
         let boards = subject.boards.iter();
         boards.map(|board| vec![0; (timed.room)(board)]).collect()
