@@ -464,8 +464,8 @@ pub fn value_lengths(compare: &mut Comparison) {
             let named = Entry::new(code, b"o".to_vec()).bytes(format);
             let order = match format {
                 // Nothing comes after the pool.
-                Format::Tiny => [&first[..], &last, &named].concat(),
-                _ => [&first[..], &named, &last].concat(),
+                Format::Tiny => [first, &last, &named].concat(),
+                _ => [first, &named, &last].concat(),
             };
             let all = match format {
                 Format::Tiny => [lengths, &[2 + length, 3]].concat(),
