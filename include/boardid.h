@@ -1,2 +1,2 @@
 /* boardid.h of the newest edition. */
-#include "edition-3/boardid.h"
+#include "edition-4/boardid.h"
