@@ -9,9 +9,9 @@
 # LIB=FILE takes a library that is already built, and builds none. LDLIBS has what it needs to link.
 
 # The first number is the newest edition that the library knows; the second counts the changes since that brought no new edition.
-VERSION := 3.2
-EDITIONS := 1 2 3
-NEWEST := 3
+VERSION := 4.0
+EDITIONS := 1 2 3 4
+NEWEST := 4
 
 PREFIX ?= /usr/local
 INCLUDEDIR ?= $(PREFIX)/include
@@ -21,7 +21,7 @@ CFLAGS ?= -O2 -g
 WARNINGS := -Wall -Wextra -Wpedantic
 OUT := target/c
 
-all: $(OUT)/list $(OUT)/edit $(OUT)/vendor
+all: $(OUT)/list $(OUT)/edit $(OUT)/vendor $(OUT)/backup
 
 ifeq ($(origin LIB), undefined)
 LIB := target/staticlib/libboardid.a
@@ -31,7 +31,7 @@ $(LIB): FORCE
 	rt staticlib boardid
 endif
 
-$(OUT)/%: examples/%.c examples/image_file.h include/boardid.h include/edition-$(NEWEST)/boardid.h $(LIB)
+$(OUT)/%: examples/%.c examples/image_file.h examples/whole_file.h include/boardid.h include/edition-$(NEWEST)/boardid.h $(LIB)
 	@mkdir -p $(OUT)
 	$(CC) -std=c99 $(WARNINGS) $(CPPFLAGS) $(CFLAGS) -Iinclude $(LDFLAGS) -o $@ $< $(LIB) $(LDLIBS)
 

@@ -19,26 +19,7 @@
  */
 #define _XOPEN_SOURCE 700
 
-#include <fcntl.h>
-#include <libgen.h>
-#include <sys/stat.h>
-#include <sys/types.h>
-#include <unistd.h>
-
-#include "image_file.h"
-
-/* A number in decimal; returns 0, or -1 where the word is none or is above the limit. */
-static int number_of_word(const char *word, unsigned long long limit, unsigned long long *number)
-{
-    char *end;
-
-    if (word[0] < '0' || word[0] > '9') {
-        return -1;
-    }
-    errno = 0;
-    *number = strtoull(word, &end, 10);
-    return errno == 0 && *end == '\0' && *number <= limit ? 0 : -1;
-}
+#include "whole_file.h"
 
 /* The value of a hexadecimal digit; -1 of any other character. */
 static int hex_digit(char character)
@@ -79,102 +60,6 @@ static int bytes_of_word(const char *word, struct new_value *value)
         }
     }
     return 0;
-}
-
-/* Writes all bytes to a file descriptor and brings them to the disk; returns 0, or -1 with errno. */
-static int write_through(int descriptor, const uint8_t *bytes, size_t length)
-{
-    while (length > 0) {
-        ssize_t written = write(descriptor, bytes, length);
-
-        if (written < 0) {
-            if (errno == EINTR) {
-                continue;
-            }
-            return -1;
-        }
-        bytes += written;
-        length -= (size_t)written;
-    }
-    return fsync(descriptor);
-}
-
-/* Brings the name of a file to the disk, which its folder holds; returns 0, or -1 with errno set. */
-static int sync_folder(const char *path)
-{
-    char *copy = strdup(path);
-    int descriptor, result, error;
-
-    if (copy == NULL) {
-        return -1;
-    }
-    descriptor = open(dirname(copy), O_RDONLY);
-    free(copy);
-    if (descriptor < 0) {
-        return -1;
-    }
-    result = fsync(descriptor);
-    error = errno;
-    close(descriptor);
-    errno = error;
-    return result;
-}
-
-/* Gives an open file the permissions and the owner of the old one; returns 0, or -1 with errno. */
-static int keep_ownership(int descriptor, const struct stat *old)
-{
-    struct stat made;
-
-    if (fstat(descriptor, &made) != 0) {
-        return -1;
-    }
-    if ((made.st_uid != old->st_uid || made.st_gid != old->st_gid) &&
-        fchown(descriptor, old->st_uid, old->st_gid) != 0) {
-        return -1;
-    }
-    return fchmod(descriptor, old->st_mode & 07777);
-}
-
-/* Replaces a file by a new one of these bytes, all or nothing; returns 0, or -1 with errno set. */
-static int replace_file(const char *path, const struct stat *old, const uint8_t *bytes,
-                        size_t length)
-{
-    static const char suffix[] = ".XXXXXX";
-    size_t name_length = strlen(path);
-    char *temporary = malloc(name_length + sizeof suffix);
-    int descriptor, result, error;
-
-    if (temporary == NULL) {
-        return -1;
-    }
-    memcpy(temporary, path, name_length);
-    memcpy(temporary + name_length, suffix, sizeof suffix);
-    descriptor = mkstemp(temporary);
-    if (descriptor < 0) {
-        error = errno;
-        free(temporary);
-        errno = error;
-        return -1;
-    }
-    result = keep_ownership(descriptor, old);
-    if (result == 0) {
-        result = write_through(descriptor, bytes, length);
-    }
-    error = errno;
-    if (close(descriptor) != 0 && result == 0) {
-        result = -1;
-        error = errno;
-    }
-    if (result == 0) {
-        result = rename(temporary, path);
-        error = errno;
-    }
-    if (result != 0) {
-        unlink(temporary);
-    }
-    free(temporary);
-    errno = error;
-    return result;
 }
 
 /*
