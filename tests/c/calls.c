@@ -569,7 +569,12 @@ static void record_holds(uint32_t format, struct boardid_record record, const ch
 
     expect(record.kind == 0 || record.kind == BOARDID_KIND(format, record.code), what);
     expect(record.kind != 0 || record.reading == BOARDID_READING_PLAIN_BYTES, what);
+#if BOARDID_EDITION >= 4
+    expect_number(record.frame_length, record.value_place + record.value_length - record.place,
+                  what);
+#else
     expect_number(record.reserved, 0, what);
+#endif
     if (format != BOARDID_FORMAT_VPD) {
         expect_number(record.key_place, record.value_place, what);
         expect_number(record.key_length, 0, what);
@@ -634,6 +639,33 @@ static void one_entry(uint32_t format, struct lent image, uint32_t n, const uint
     give_back(lent);
 }
 
+#if BOARDID_EDITION >= 4
+/* The frames of an accepted image follow one another, from its header to what ends the entries. */
+static void frames_tile(uint32_t format, struct lent image, const uint8_t *records, uint32_t count,
+                        const char *what)
+{
+    static const uint32_t starts[] = {0, 4, 0, 3, 11};
+    uint32_t at = starts[format], n;
+
+    for (n = 0; n < count; n++) {
+        struct boardid_record record = boardid_record_at(records, n);
+
+        expect_number(record.place, at, what);
+        at = record.place + record.frame_length;
+    }
+    expect(at < image.length, what);
+    if (at < image.length) {
+        uint8_t end = image.bytes[at];
+
+        expect(format == 1   ? end == 250
+               : format == 2 ? end == 0x00 || end == 0xFF
+               : format == 3 ? image.bytes[2] == at + 1
+                             : end == 0xFE,
+               what);
+    }
+}
+#endif
+
 /* All other calls on an image that check accepts. */
 static void accepted_alike(uint32_t format, struct lent image, uint32_t count, const char *what)
 {
@@ -659,6 +691,9 @@ static void accepted_alike(uint32_t format, struct lent image, uint32_t count, c
     for (n = 0; n < count; n++) {
         one_entry(format, image, n, records.bytes + (size_t)n * BOARDID_RECORD_SIZE, what);
     }
+#if BOARDID_EDITION >= 4
+    frames_tile(format, image, records.bytes, count, what);
+#endif
     boardid_walk_set(walk.bytes, format, 0);
     for (n = 0; n < count; n++) {
         expect_count(boardid_walk_step(walk.bytes, walk.length, image.bytes, image.length,
@@ -723,6 +758,7 @@ struct record_case {
     uint32_t code;
     uint32_t since;
     uint32_t places[5]; /* words 2 to 6 */
+    uint32_t frame;     /* word 7 from edition 4 on; 0 before */
     uint32_t reading;
     uint32_t carried[7];
 };
@@ -746,7 +782,7 @@ static void expect_records(uint32_t format, const char *hex, const struct record
         for (i = 0; i < 5; i++) {
             expect_number(boardid_word_at(bytes, 2 + i), c->places[i], what);
         }
-        expect_number(boardid_word_at(bytes, 7), 0, what);
+        expect_number(boardid_word_at(bytes, 7), BOARDID_EDITION >= 4 ? c->frame : 0, what);
         expect_number(boardid_word_at(bytes, 8), named ? c->reading : 0, what);
         for (i = 0; i < 7; i++) {
             expect_number(boardid_word_at(bytes, 9 + i), named ? c->carried[i] : 0, what);
@@ -759,48 +795,48 @@ static void expect_records(uint32_t format, const char *hex, const struct record
 static void records(void)
 {
     static const struct record_case fboss[] = {
-        {8, 1, {4, 6, 0, 6, 1}, 2, {0xFE, 0, 0, 0, 0, 0, 0}},
-        {1, 1, {7, 9, 0, 9, 2}, 1, {0, 0, 0, 0, 0, 0, 0}},
-        {9, 1, {11, 13, 0, 13, 1}, 2, {2, 0, 0, 0, 0, 0, 0}},
-        {10, 1, {14, 16, 0, 16, 1}, 2, {3, 0, 0, 0, 0, 0, 0}},
-        {11, 1, {17, 19, 0, 19, 0}, 1, {0, 0, 0, 0, 0, 0, 0}},
-        {21, 0, {19, 21, 0, 21, 2}, 0, {0, 0, 0, 0, 0, 0, 0}},
-        {20, 2, {23, 25, 0, 25, 8}, 3, {0x021A, 0x2B3C4D5E, 0x0102, 0, 0, 0, 0}},
-        {13, 1, {33, 35, 0, 35, 8}, 8, {2024, 2, 29, 0, 0, 0, 0}},
+        {8, 1, {4, 6, 0, 6, 1}, 3, 2, {0xFE, 0, 0, 0, 0, 0, 0}},
+        {1, 1, {7, 9, 0, 9, 2}, 4, 1, {0, 0, 0, 0, 0, 0, 0}},
+        {9, 1, {11, 13, 0, 13, 1}, 3, 2, {2, 0, 0, 0, 0, 0, 0}},
+        {10, 1, {14, 16, 0, 16, 1}, 3, 2, {3, 0, 0, 0, 0, 0, 0}},
+        {11, 1, {17, 19, 0, 19, 0}, 2, 1, {0, 0, 0, 0, 0, 0, 0}},
+        {21, 0, {19, 21, 0, 21, 2}, 4, 0, {0, 0, 0, 0, 0, 0, 0}},
+        {20, 2, {23, 25, 0, 25, 8}, 10, 3, {0x021A, 0x2B3C4D5E, 0x0102, 0, 0, 0, 0}},
+        {13, 1, {33, 35, 0, 35, 8}, 10, 8, {2024, 2, 29, 0, 0, 0, 0}},
     };
     static const struct record_case vpd[] = {
-        {0x01, 1, {0, 3, 3, 9, 2}, 0, {0, 0, 0, 0, 0, 0, 0}},
-        {0xFE, 2, {11, 13, 0, 14, 4}, 0, {0, 0, 0, 0, 0, 0, 0}},
-        {0x01, 1, {18, 20, 1, 22, 0}, 0, {0, 0, 0, 0, 0, 0, 0}},
+        {0x01, 1, {0, 3, 3, 9, 2}, 11, 0, {0, 0, 0, 0, 0, 0, 0}},
+        {0xFE, 2, {11, 13, 0, 14, 4}, 7, 0, {0, 0, 0, 0, 0, 0, 0}},
+        {0x01, 1, {18, 20, 1, 22, 0}, 4, 0, {0, 0, 0, 0, 0, 0, 0}},
     };
     static const struct record_case names[] = {
-        {0x01, 1, {0, 3, 8, 12, 3}, 0, {0, 0, 0, 0, 0, 0, 0}},
-        {0xFE, 2, {15, 17, 1, 19, 4}, 0, {0, 0, 0, 0, 0, 0, 0}},
-        {0x01, 1, {23, 25, 3, 29, 0}, 0, {0, 0, 0, 0, 0, 0, 0}},
+        {0x01, 1, {0, 3, 8, 12, 3}, 15, 0, {0, 0, 0, 0, 0, 0, 0}},
+        {0xFE, 2, {15, 17, 1, 19, 4}, 8, 0, {0, 0, 0, 0, 0, 0, 0}},
+        {0x01, 1, {23, 25, 3, 29, 0}, 6, 0, {0, 0, 0, 0, 0, 0, 0}},
     };
     static const struct record_case tiny[] = {
-        {0x10, 1, {3, 4, 0, 4, 1}, 4, {1, 0, 0, 0, 0, 0, 0}},
-        {0x11, 1, {5, 6, 0, 6, 1}, 5, {0xF5, 2, 0, 0, 0, 0, 0}},
-        {0x60, 1, {7, 8, 0, 8, 6}, 3, {0x021A, 0x2B3C4D5E, 1, 0, 0, 0, 0}},
-        {0x61, 1, {14, 15, 0, 15, 6}, 6, {0, 1, 0x80, 5, 0x41, 0x31, 0}},
-        {0x02, 0, {21, 23, 0, 23, 1}, 0, {0, 0, 0, 0, 0, 0, 0}},
-        {0x81, 2, {24, 25, 0, 25, 8}, 7, {0, 1, 0x99, 0x63, 0, 0xFF, 9999}},
-        {0x01, 1, {33, 35, 0, 35, 4}, 0, {0, 0, 0, 0, 0, 0, 0}},
+        {0x10, 1, {3, 4, 0, 4, 1}, 2, 4, {1, 0, 0, 0, 0, 0, 0}},
+        {0x11, 1, {5, 6, 0, 6, 1}, 2, 5, {0xF5, 2, 0, 0, 0, 0, 0}},
+        {0x60, 1, {7, 8, 0, 8, 6}, 7, 3, {0x021A, 0x2B3C4D5E, 1, 0, 0, 0, 0}},
+        {0x61, 1, {14, 15, 0, 15, 6}, 7, 6, {0, 1, 0x80, 5, 0x41, 0x31, 0}},
+        {0x02, 0, {21, 23, 0, 23, 1}, 3, 0, {0, 0, 0, 0, 0, 0, 0}},
+        {0x81, 2, {24, 25, 0, 25, 8}, 9, 7, {0, 1, 0x99, 0x63, 0, 0xFF, 9999}},
+        {0x01, 1, {33, 35, 0, 35, 4}, 6, 0, {0, 0, 0, 0, 0, 0, 0}},
     };
 #if BOARDID_EDITION >= 3
     static const struct record_case onie[] = {
-        {0x21, 3, {11, 13, 0, 13, 2}, 1, {0, 0, 0, 0, 0, 0, 0}},
-        {0x22, 3, {15, 17, 0, 17, 0}, 1, {0, 0, 0, 0, 0, 0, 0}},
-        {0x23, 3, {17, 19, 0, 19, 2}, 1, {0, 0, 0, 0, 0, 0, 0}},
-        {0x24, 3, {21, 23, 0, 23, 6}, 3, {0x021A, 0x2B3C4D5E, 1, 0, 0, 0, 0}},
-        {0x25, 3, {29, 31, 0, 31, 19}, 9, {2024, 2, 3, 4, 5, 6, 0}},
-        {0x26, 0, {50, 52, 0, 52, 1}, 0, {0, 0, 0, 0, 0, 0, 0}},
-        {0x2A, 3, {53, 55, 0, 55, 2}, 2, {0xFF03, 0, 0, 0, 0, 0, 0}},
-        {0x2B, 3, {57, 59, 0, 59, 1}, 1, {0, 0, 0, 0, 0, 0, 0}},
-        {0x2C, 3, {60, 62, 0, 62, 2}, 1, {0, 0, 0, 0, 0, 0, 0}},
-        {0x2D, 3, {64, 66, 0, 66, 1}, 1, {0, 0, 0, 0, 0, 0, 0}},
-        {0xFD, 3, {67, 69, 0, 69, 5}, 0, {0, 0, 0, 0, 0, 0, 0}},
-        {0xFD, 3, {74, 76, 0, 76, 4}, 0, {0, 0, 0, 0, 0, 0, 0}},
+        {0x21, 3, {11, 13, 0, 13, 2}, 4, 1, {0, 0, 0, 0, 0, 0, 0}},
+        {0x22, 3, {15, 17, 0, 17, 0}, 2, 1, {0, 0, 0, 0, 0, 0, 0}},
+        {0x23, 3, {17, 19, 0, 19, 2}, 4, 1, {0, 0, 0, 0, 0, 0, 0}},
+        {0x24, 3, {21, 23, 0, 23, 6}, 8, 3, {0x021A, 0x2B3C4D5E, 1, 0, 0, 0, 0}},
+        {0x25, 3, {29, 31, 0, 31, 19}, 21, 9, {2024, 2, 3, 4, 5, 6, 0}},
+        {0x26, 0, {50, 52, 0, 52, 1}, 3, 0, {0, 0, 0, 0, 0, 0, 0}},
+        {0x2A, 3, {53, 55, 0, 55, 2}, 4, 2, {0xFF03, 0, 0, 0, 0, 0, 0}},
+        {0x2B, 3, {57, 59, 0, 59, 1}, 3, 1, {0, 0, 0, 0, 0, 0, 0}},
+        {0x2C, 3, {60, 62, 0, 62, 2}, 4, 1, {0, 0, 0, 0, 0, 0, 0}},
+        {0x2D, 3, {64, 66, 0, 66, 1}, 3, 1, {0, 0, 0, 0, 0, 0, 0}},
+        {0xFD, 3, {67, 69, 0, 69, 5}, 7, 0, {0, 0, 0, 0, 0, 0, 0}},
+        {0xFD, 3, {74, 76, 0, 76, 4}, 6, 0, {0, 0, 0, 0, 0, 0, 0}},
     };
 #endif
 
@@ -918,11 +954,12 @@ static void onie_refused(uint32_t e, uint32_t number, const char *what)
     give_back(image);
 }
 
-/* The exported calls with editions that no header has: 4 is one past the newest. */
+/* The exported calls with editions that no header has: 5 is one past the newest. */
 static void editions(void)
 {
-    static const uint32_t unknown[] = {0, 4, 99, 257, 0x80000001};
+    static const uint32_t unknown[] = {0, 5, 99, 257, 0x80000001, 0xFFFFFFFF};
     struct lent image = lend_hex("56 02 04 6F"), record = lend(64), out = lend(10);
+    struct lent walk = lend(BOARDID_WALK_SIZE);
     size_t i;
 
     for (i = 0; i < sizeof unknown / sizeof unknown[0]; i++) {
@@ -941,6 +978,11 @@ static void editions(void)
         expect_refused(boardid_edit(3, e, image.bytes, image.length, 0, NULL, 0, out.bytes,
                                     out.length),
                        1, 0, "edition: edit");
+        boardid_walk_set(walk.bytes, 3, 0);
+        boardid_word_set(walk.bytes, 1, e);
+        expect_refused(boardid_step(walk.bytes, walk.length, image.bytes, image.length,
+                                    record.bytes, 64),
+                       1, 0, "edition: step");
         expect_refused(boardid_check(0, e, image.bytes, image.length), 16, 0, "16 before 1");
         expect_refused(boardid_string(1, e, image.bytes, image.length, 0), 16, 0,
                        "D19: 16 before 1");
@@ -948,14 +990,15 @@ static void editions(void)
                        "write: 16 before 1");
         onie_refused(e, 1, "format 4, an unknown edition");
     }
-    for (i = 1; i <= 3; i++) {
+    for (i = 1; i <= 4; i++) {
         expect_count(boardid_check(3, (uint32_t)i, image.bytes, image.length), 0,
-                     "edition: 1 to 3 are known");
+                     "edition: 1 to 4 are known");
     }
     onie_refused(1, 16, "format 4, edition 1");
     onie_refused(2, 16, "format 4, edition 2");
     expect(all_are(record, 0, 0x5A), "an unknown edition leaves the record");
     expect(all_are(out, 0, 0x5A), "an unknown edition leaves the output");
+    give_back(walk);
     give_back(out);
     give_back(record);
     give_back(image);
@@ -1341,6 +1384,17 @@ static void most_keys(void)
         at += at[1] + 3;
     }
     expect_count(boardid_check_image(2, image.bytes, image.length), count, "13,158 keys");
+#if BOARDID_EDITION >= 4
+    {
+        struct lent records = lend((size_t)count * BOARDID_RECORD_SIZE);
+
+        expect_count(boardid_list_entries(2, image.bytes, image.length, records.bytes,
+                                          records.length),
+                     count, "a list of 13,158 keys");
+        frames_tile(2, image, records.bytes, count, "13,158 frames");
+        give_back(records);
+    }
+#endif
     at[-2] = 1; /* a key that has come before */
     expect_refused(boardid_check_image(2, image.bytes, image.length), 8, 65529,
                    "13,158 keys, the last a second time");
@@ -1461,11 +1515,18 @@ static void most_entries(void)
                  (uint32_t)count, "a list of 32,762 entries");
     expect_number(boardid_record_at(records.bytes, count - 1).code, 99, "the last entry");
     expect_number(boardid_record_at(records.bytes, count - 1).place, i - 2, "its place");
+#if BOARDID_EDITION >= 4
+    frames_tile(1, image, records.bytes, (uint32_t)count, "32,762 frames");
+#endif
     expect_count(boardid_edit_entry(1, image.bytes, image.length, 1, two, sizeof two, edited.bytes,
                                     edited.length),
                  65535, "an edit among 32,762 entries");
-    expect_count(boardid_check_image(1, edited.bytes, edited.length), (uint32_t)count,
-                 "32,762 entries after an edit");
+    expect_count(boardid_list_entries(1, edited.bytes, edited.length, records.bytes,
+                                      records.length),
+                 (uint32_t)count, "32,762 entries after an edit");
+#if BOARDID_EDITION >= 4
+    frames_tile(1, edited, records.bytes, (uint32_t)count, "32,762 frames after an edit");
+#endif
     give_back(records);
     give_back(edited);
     give_back(image);
@@ -1510,6 +1571,9 @@ static void onie_lengths(void)
     expect_count(boardid_list_entries(4, image.bytes, 2059, records.bytes, records.length), 1021,
                  "ONIE: a list of 1,021 entries");
     expect_number(boardid_record_at(records.bytes, 1020).place, 2051, "ONIE: the last entry");
+#if BOARDID_EDITION >= 4
+    frames_tile(4, image, records.bytes, 1021, "ONIE: 1,021 frames");
+#endif
     expect_refused(boardid_check_image(4, image.bytes, 2058), 5, 9, "ONIE: a byte too few");
     image.bytes[2058]++;
     expect_refused(boardid_check_image(4, image.bytes, 2059), 10, 2055, "ONIE: the last byte");

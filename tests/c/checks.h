@@ -1,4 +1,4 @@
-/* The checks of FBOSS v5 and of ONIE, bit by bit, for test programs that put images together. */
+/* The checks of FBOSS v5, Tiny and ONIE, bit by bit, for test programs that put images together. */
 #ifndef CHECKS_H
 #define CHECKS_H
 
@@ -16,6 +16,22 @@ static inline uint32_t check16_of(const uint8_t *bytes, size_t length)
         check ^= (uint32_t)bytes[i] << 8;
         for (bit = 0; bit < 8; bit++) {
             check = (check & 0x8000) != 0 ? (check << 1 ^ 0x1021) & 0xFFFF : check << 1;
+        }
+    }
+    return check;
+}
+
+/* Tiny: 8 bits, polynomial 07h, start 0, high bit first, no final change. */
+static inline uint32_t check8_of(const uint8_t *bytes, size_t length)
+{
+    uint32_t check = 0;
+    size_t i;
+    int bit;
+
+    for (i = 0; i < length; i++) {
+        check ^= bytes[i];
+        for (bit = 0; bit < 8; bit++) {
+            check = (check & 0x80) != 0 ? (check << 1 ^ 0x07) & 0xFF : check << 1;
         }
     }
     return check;

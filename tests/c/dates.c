@@ -128,7 +128,7 @@ static void expect_record(const struct dated *d, const uint8_t *bytes, uint32_t 
     expect_number(boardid_word_at(bytes, 4), 0, what);
     expect_number(boardid_word_at(bytes, 5), place + 2, what);
     expect_number(boardid_word_at(bytes, 6), length, what);
-    expect_number(boardid_word_at(bytes, 7), 0, what);
+    expect_number(boardid_word_at(bytes, 7), BOARDID_EDITION >= 4 ? 2 + length : 0, what);
     expect_number(boardid_word_at(bytes, 8), d->format == BOARDID_FORMAT_FBOSS ? 8 : 9, what);
     for (i = 0; i < 6; i++) {
         expect_number(boardid_word_at(bytes, 9 + i), carried[i], what);

@@ -1,6 +1,6 @@
 #!/usr/bin/env bash
 # Runs the examples on copies of the samples and prints each command with what it writes and its exit status; run.sh compares that with examples.out.
-# Usage: examples.sh FOLDER, which has the programs list, edit and vendor, and list-N and edit-N compiled with the headers of editions 1 and 2.
+# Usage: examples.sh FOLDER, which has the programs list, edit, vendor and backup, and list-N, edit-N and vendor-N compiled with the header of an older edition N.
 set -uo pipefail
 programs=$(cd "$1" && pwd)
 samples=$(cd "$(dirname "$0")/../../samples" && pwd)
@@ -26,6 +26,7 @@ run list fboss fboss.bin
 run list vpd sku.vpd
 run list vpd board.vpd
 run list vpd names.vpd
+run list vpd frames.vpd
 run list tiny tiny.bin
 run list onie onie.bin
 run list onie amplifier.bin
@@ -36,6 +37,9 @@ run list-1 tiny tiny.bin
 run list-2 fboss fboss.bin
 run list-2 vpd board.vpd
 run list-2 tiny tiny.bin
+run list-3 vpd frames.vpd
+run list-3 tiny tiny.bin
+run list-3 onie onie.bin
 
 echo '# list: what the samples do not show'
 printf '\xFB\xFB\x05\xFF\x01\x03"\\~\x08\x01\xFF\x09\x01\x00\x0A\x01\x09\x0B\x00\x63\x03\x00\x41\xFF\x15\x00\xFA\x02\x16\xAC' >unnamed.fboss
@@ -184,9 +188,14 @@ run edit-1 tiny tiny.bin 0 X
 run edit-1 -x tiny tiny.bin 0 02
 run list tiny tiny.bin
 
+echo '# edit by edition 3'
+run edit-3 vpd names.vpd 2 C3
+run list vpd names.vpd
+
 echo '# vendor'
 cp "$samples/onie.bin" example.bin
 run vendor example.bin
+run vendor-3 example.bin
 run vendor amplifier.bin
 run edit onie amplifier.bin 2 LAB-000473
 run edit onie amplifier.bin 4 '12/31/2024 23:59:59'
@@ -221,3 +230,83 @@ run vendor onie amplifier.bin
 echo '$ vendor odd_serial.onie >/dev/full'
 { "$programs/vendor" odd_serial.onie >/dev/full; } 2>&1
 echo "exit status $?"
+
+echo '# backup'
+umask 027
+run backup vpd frames.vpd 0 sku.entry
+run bytes sku.entry
+run stat -c '%a' sku.entry
+run backup vpd frames.vpd 1 note.entry
+run bytes note.entry
+run backup vpd frames.vpd 2 log.entry
+run cmp -i 23:0 -n 207 frames.vpd log.entry
+run stat -c '%s' log.entry
+cat sku.entry note.entry log.entry >joined
+run stat -c '%s' joined
+run cmp -n 230 frames.vpd joined
+printf '\x01\x80\x80\x80\x01A\x80\x80\x80\x02B7\xFE\x80\x00\x80\x041234\x00' >forms.vpd
+run backup vpd forms.vpd 0 forms.entry
+run bytes forms.entry
+run backup vpd forms.vpd 1 forms.entry
+run bytes forms.entry
+cp "$samples/fboss.bin" whole.fboss
+cp "$samples/tiny.bin" whole.tiny
+cp "$samples/onie.bin" whole.onie
+run backup fboss whole.fboss 16 fboss.entry
+run bytes fboss.entry
+run backup tiny whole.tiny 0 serial.entry
+run bytes serial.entry
+run backup tiny whole.tiny 7 pool.entry
+run bytes pool.entry
+run backup onie whole.onie 5 onie.entry
+run bytes onie.entry
+run backup onie whole.onie 12 onie.entry
+run bytes onie.entry
+
+echo '# backup: after an edit, into files that are there'
+chmod 604 note.entry
+ln -s note.entry link.entry
+run edit vpd frames.vpd 1 hi
+run backup vpd frames.vpd 1 link.entry
+run readlink link.entry
+run stat -c '%a' note.entry
+run bytes note.entry
+run backup vpd frames.vpd 2 log.entry
+run stat -c '%s' log.entry
+run cmp -i 18:0 -n 207 frames.vpd log.entry
+run edit-1 vpd frames.vpd 0 A8
+run backup vpd frames.vpd 1 note.entry
+run bytes note.entry
+
+echo '# backup: refusals and failures; nothing is changed and nothing left behind'
+cp -p note.entry before.entry
+cp -p frames.vpd before.vpd
+ln frames.vpd same.vpd
+ln -s frames.vpd image.entry
+ln -s nowhere lost.entry
+before=$(echo *)
+run backup vpd frames.vpd 3 note.entry
+run backup vpd frames.vpd 18446744073709551615 note.entry
+run backup fboss frames.vpd 0 note.entry
+run backup vpd twice.vpd 0 note.entry
+run backup fboss no_day.fboss 0 note.entry
+run backup onie check.onie 0 note.entry
+run backup vpd long.vpd 0 note.entry
+run backup vpd missing.vpd 0 note.entry
+run backup vpd . 0 note.entry
+run backup vpd frames.vpd 0 frames.vpd
+run backup vpd frames.vpd 0 same.vpd
+run backup vpd frames.vpd 0 image.entry
+run backup vpd frames.vpd 0 lost.entry
+run backup vpd frames.vpd 0 .
+run backup vpd frames.vpd 0 /dev/null
+run backup vpd frames.vpd 0 nowhere/note.entry
+run backup vpd frames.vpd 0 note.entry/note.entry
+run backup vpd frames.vpd 0 ''
+run backup vpd frames.vpd one note.entry
+run backup vpd frames.vpd 18446744073709551616 note.entry
+run backup eeprom frames.vpd 0 note.entry
+run backup vpd frames.vpd 0
+run cmp note.entry before.entry
+run cmp frames.vpd before.vpd
+[ "$(echo *)" = "$before" ] && echo 'the folder is as before'

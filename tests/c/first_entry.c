@@ -1,13 +1,15 @@
 /*
- * Two functions of a program that has the headers of all editions: compiled once with each
- * edition's header, under the names that KIND and DATE are defined as. They give the kind of the
- * first entry of an image, and its date as the number YYYYMMDD, which is 0 where its reading is no
- * date; where the call is refused, both give the refusal's number times 100,000,000.
+ * Three functions of a program that has the headers of all editions: compiled once with each
+ * edition's header, under the names that KIND, DATE and FRAME are defined as. They give the kind of
+ * the first entry of an image; its date as the number YYYYMMDD, which is 0 where its reading is no
+ * date; and the length of its frame, or what an edition before 4 has in its place. Where the call is
+ * refused, all give the refusal's number times 100,000,000.
  */
 #include <boardid.h>
 
 uint32_t KIND(uint32_t format, const uint8_t *image, size_t length);
 uint32_t DATE(uint32_t format, const uint8_t *image, size_t length);
+uint32_t FRAME(uint32_t format, const uint8_t *image, size_t length);
 
 /* The first entry of an image, and the number of the refusal. */
 static uint32_t first_entry(uint32_t format, const uint8_t *image, size_t length,
@@ -35,4 +37,16 @@ uint32_t DATE(uint32_t format, const uint8_t *image, size_t length)
     struct boardid_date date = boardid_record_date(&record);
 
     return number != 0 ? number * 100000000 : date.year * 10000 + date.month * 100 + date.day;
+}
+
+uint32_t FRAME(uint32_t format, const uint8_t *image, size_t length)
+{
+    struct boardid_record record;
+    uint32_t number = first_entry(format, image, length, &record);
+
+#if BOARDID_EDITION >= 4
+    return number != 0 ? number * 100000000 : record.frame_length;
+#else
+    return number != 0 ? number * 100000000 : record.reserved;
+#endif
 }

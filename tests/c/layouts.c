@@ -231,7 +231,11 @@ static void records(void)
     expect_number(offsetof(struct boardid_record, key_length), 16, "word 4");
     expect_number(offsetof(struct boardid_record, value_place), 20, "word 5");
     expect_number(offsetof(struct boardid_record, value_length), 24, "word 6");
+#if BOARDID_EDITION >= 4
+    expect_number(offsetof(struct boardid_record, frame_length), 28, "word 7");
+#else
     expect_number(offsetof(struct boardid_record, reserved), 28, "word 7");
+#endif
     expect_number(offsetof(struct boardid_record, reading), 32, "word 8");
     expect_number(offsetof(struct boardid_record, carried), 36, "words 9 to 15");
 
@@ -244,7 +248,11 @@ static void records(void)
     expect_number(record.key_length, filled_word(4), "key length");
     expect_number(record.value_place, filled_word(5), "value place");
     expect_number(record.value_length, filled_word(6), "value length");
+#if BOARDID_EDITION >= 4
+    expect_number(record.frame_length, filled_word(7), "frame length");
+#else
     expect_number(record.reserved, filled_word(7), "reserved");
+#endif
     expect_number(record.reading, filled_word(8), "reading");
     for (i = 0; i < 7; i++) {
         expect_number(record.carried[i], filled_word(9 + i), "carried");

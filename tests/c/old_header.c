@@ -3,7 +3,8 @@
  * header, and each is linked with the one library. The images have, in formats 1 to 3, entries that
  * edition 2 names and edition 1 does not, and entries that no edition names; one has VPD keys that
  * are read and not written. The ONIE image has entries that edition 3 names and entries that none
- * names; editions 1 and 2, which do not have its format, refuse every call on it with 16.
+ * names; editions 1 and 2, which do not have its format, refuse every call on it with 16. Edition 4
+ * names what edition 3 does, and has the lengths of frames, where the editions before have 0.
  *
  *     old_header list FOLDER        expects this edition's kinds and readings, and writes what every
  *                                   edition that has the format must list alike (codes, keys, values)
@@ -135,6 +136,16 @@ static int names(uint32_t edition, const struct entry_case *entry)
     return entry->since != 0 && entry->since <= edition;
 }
 
+/* The length of an entry's whole frame, which ends with its value. */
+static uint32_t frame_of(const struct boardid_record *record)
+{
+#if BOARDID_EDITION >= 4
+    return record->frame_length;
+#else
+    return record->value_place + record->value_length - record->place;
+#endif
+}
+
 /* The list of an image by this edition. */
 struct list {
     uint32_t count;
@@ -145,12 +156,24 @@ static struct list list_of(const struct image_case *c, struct lent image)
 {
     struct list list;
     uint64_t answer;
+    uint32_t n;
 
     memset(&list, 0, sizeof list);
     answer = boardid_list_entries(c->format, image.bytes, image.length, list.records,
                                   sizeof list.records);
     expect_number(boardid_answer_number(answer), 0, c->name);
     list.count = boardid_answer_count(answer);
+    for (n = 0; n < list.count; n++) {
+        struct boardid_record record = boardid_record_at(list.records, n);
+
+#if BOARDID_EDITION < 4
+        expect_number(record.reserved, 0, c->name);
+#endif
+        if (n + 1 < list.count) {
+            expect_number(record.place + frame_of(&record),
+                          boardid_record_at(list.records, n + 1).place, c->name);
+        }
+    }
     return list;
 }
 
@@ -391,10 +414,8 @@ static void expect_one_change(const struct image_case *c, struct lent image, str
                              b.value_length),
                    c->name);
         } else {
-            /* The whole entry is the same, from its first byte to the last of its value. */
-            expect(same_part(image, a.place, a.value_place + a.value_length - a.place, edited,
-                             b.place, b.value_place + b.value_length - b.place),
-                   c->name);
+            /* The whole frame is the same, from its first byte to the last of its value. */
+            expect(same_part(image, a.place, frame_of(&a), edited, b.place, frame_of(&b)), c->name);
             expect(memcmp(a.carried, b.carried, sizeof a.carried) == 0, c->name);
         }
     }

@@ -27,6 +27,11 @@ int main()
     const boardid_record entry = boardid_record_at(record, 0);
     good = good && entry.kind == BOARDID_KIND(BOARDID_FORMAT_VPD, BOARDID_VPD_STRING);
     good = good && entry.value_place == 6 && entry.value_length == 2;
+#if BOARDID_EDITION >= 4
+    good = good && entry.place == 0 && entry.frame_length == 8;
+#else
+    good = good && entry.place == 0 && entry.reserved == 0;
+#endif
     good = good && boardid_answer_count(boardid_entry_at(BOARDID_FORMAT_VPD, image, sizeof image, 0,
                                                          record, sizeof record)) == 1;
     const boardid_part part =

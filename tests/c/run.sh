@@ -12,8 +12,8 @@ read -r -a more <<<"${LDLIBS:-}"
 room=$(mktemp -d)
 trap 'rm -rf "$room"' EXIT
 passed=0 failed=0
-editions=(1 2 3)
-newest=3
+editions=(1 2 3 4)
+newest=4
 warnings=(-Wall -Wextra -Wpedantic -Wconversion -Wshadow -Werror)
 
 # try NAME COMMAND..: one test, which passes where the command's exit status is 0.
@@ -80,28 +80,30 @@ old_and_new() {
     done
 }
 
-# One program of three parts, each compiled with another edition's header.
-three_headers() {
+# One program with a part for each edition, compiled with that edition's header.
+all_headers() {
     local folder=$1 edition parts=()
-    for edition in 1 2 3; do
-        "$cc" -std=c99 "${warnings[@]}" "${flags[@]}" "-Iinclude/edition-$edition" "-DKIND=kind_by_edition_$edition" "-DDATE=date_by_edition_$edition" -c \
-            -o "$folder/first-$edition.o" tests/c/first_entry.c || return 1
+    for edition in "${editions[@]}"; do
+        "$cc" -std=c99 "${warnings[@]}" "${flags[@]}" "-Iinclude/edition-$edition" "-DKIND=kind_by_edition_$edition" "-DDATE=date_by_edition_$edition" \
+            "-DFRAME=frame_by_edition_$edition" -c -o "$folder/first-$edition.o" tests/c/first_entry.c || return 1
         parts+=("$folder/first-$edition.o")
     done
-    "$cc" -std=c99 "${warnings[@]}" "${flags[@]}" -o "$folder/three_headers" tests/c/three_headers.c "${parts[@]}" "$lib" "${more[@]}" &&
-        "$folder/three_headers"
+    "$cc" -std=c99 "${warnings[@]}" "${flags[@]}" -o "$folder/all_headers" tests/c/all_headers.c "${parts[@]}" "$lib" "${more[@]}" &&
+        "$folder/all_headers"
 }
 
-# The examples, with the newest header and, but for vendor, with those of editions 1 and 2, against their stored output.
+# The examples, with the newest header and, list and edit, with each older one, against their stored output; vendor with that of edition 3 compiles.
 examples() {
-    local folder=$1 name
-    for name in list edit vendor; do
+    local folder=$1 name edition
+    for name in list edit vendor backup; do
         "$cc" -std=c99 "${warnings[@]}" "${flags[@]}" -Iinclude -o "$folder/$name" "examples/$name.c" "$lib" "${more[@]}" || return 1
     done
     for name in list edit; do
-        program "$folder/$name-1" 1 "examples/$name.c" || return 1
-        program "$folder/$name-2" 2 "examples/$name.c" || return 1
+        for edition in "${editions[@]}"; do
+            [ "$edition" = "$newest" ] || program "$folder/$name-$edition" "$edition" "examples/$name.c" || return 1
+        done
     done
+    program "$folder/vendor-3" 3 examples/vendor.c || return 1
     tests/c/examples.sh "$folder" >"$folder/examples.out" 2>&1
     diff tests/c/examples.out "$folder/examples.out"
 }
@@ -138,7 +140,7 @@ compiler() {
         folder=$room/$cc-$flavour
         mkdir -p "$folder"
         for edition in "${editions[@]}"; do
-            names=(layouts calls dates before_dates)
+            names=(layouts calls frames dates before_dates)
             [ "$edition" -lt 3 ] || names+=(vendor)
             for name in "${names[@]}" old_header; do
                 try "$cc, $flavour: $name compiled with edition $edition" program "$folder/$name-$edition" "$edition" "tests/c/$name.c"
@@ -148,7 +150,7 @@ compiler() {
             done
         done
         try "$cc, $flavour: old and new header on the same files" old_and_new "$folder"
-        try "$cc, $flavour: three headers in one program" three_headers "$folder"
+        try "$cc, $flavour: all headers in one program" all_headers "$folder"
         try "$cc, $flavour: the examples" examples "$folder"
         if command -v "$cxx" >"$room/output"; then
             for edition in "${editions[@]}"; do
@@ -202,6 +204,15 @@ typedef char itself[BOARDID_EDITION == $edition ? 1 : -1];"
         boardid_vendor_piece_set boardid_vendor_offsets_word boardid_vendor_read boardid_vendor_write \
         boardid_vendor_read_payload boardid_vendor_write_payload \
         BOARDID_READING_DATE_WITH_TIME 'sizeof(struct boardid_time)' boardid_record_time
+    brought_by 4 'sizeof(((struct boardid_record *)0)->frame_length)'
+    for edition in "${editions[@]}"; do
+        name=$'#include <boardid.h>\nvoid use(void);\nvoid use(void) { (void)sizeof(((struct boardid_record *)0)->reserved); }'
+        if [ "$edition" -lt 4 ]; then
+            try "$cc: edition $edition has the member reserved" compiles "$edition" c99 "$name"
+        else
+            try "$cc: edition $edition has no member reserved" refuses compiles "$edition" c99 "$name"
+        fi
+    done
 }
 
 # brought_by EDITION NAME..: the headers from an edition on have these names, and those before have none of them.
@@ -296,12 +307,12 @@ block() {
     awk -v start="\`\`\`$1" -v wanted="$2" '$0 == start { take = ++blocks == wanted; next } /^```$/ { take = 0 } take' docs/C-INTERFACE.md
 }
 
-# A worked example of docs/C-INTERFACE.md: its program, and the output that stands there.
+# worked_example N EDITION: a worked example of docs/C-INTERFACE.md: its program with an edition's header, and the output that stands there.
 worked_example() {
     block c "$1" >"$room/worked.c"
     block text "$1" >"$room/worked.out"
     [ -s "$room/worked.c" ] && [ -s "$room/worked.out" ] || return 1
-    "$cc" -std=c99 "${warnings[@]}" -Iinclude -o "$room/worked" "$room/worked.c" "$lib" "${more[@]}" || return 1
+    program "$room/worked" "$2" "$room/worked.c" || return 1
     "$room/worked" | diff "$room/worked.out" -
 }
 
@@ -334,6 +345,9 @@ else
 fi
 try 'make install with DESTDIR' staged
 for example in 1 2 3; do
-    try "worked example $example of docs/C-INTERFACE.md" worked_example "$example"
+    try "worked example $example of docs/C-INTERFACE.md, edition 3" worked_example "$example" 3
+done
+for example in 1 2 3 4; do
+    try "worked example $example of docs/C-INTERFACE.md" worked_example "$example" "$newest"
 done
 finish

@@ -924,12 +924,12 @@ static void both_refused(uint32_t format, uint32_t edition, uint32_t number, con
 static void editions(void)
 {
     static const uint32_t formats[] = {0, 1, 2, 3, 5, 260, 0x80000004};
-    static const uint32_t unknown[] = {0, 4, 99, 259, 0x80000003};
+    static const uint32_t unknown[] = {0, 5, 99, 259, 260, 0x80000003, 0xFFFFFFFF};
     size_t i, k;
     uint32_t edition;
 
     for (i = 0; i < sizeof formats / sizeof formats[0]; i++) {
-        for (edition = 1; edition <= 3; edition++) {
+        for (edition = 1; edition <= 4; edition++) {
             both_refused(formats[i], edition, 16, "another format");
         }
         for (k = 0; k < sizeof unknown / sizeof unknown[0]; k++) {
