@@ -1,4 +1,4 @@
--- Word 7 as C reads it: 0 in editions 1 to 3, and from edition 4 on where the next record's entry or the end begins.
+-- Word 7 as C reads it: 0 in editions 1 to 3, and from edition 4 on the length after which the next record's entry or the end begins.
 -- Assumes nothing.
 use Prim.Native.Nat.{ℕ, zero, suc, _+_, _*_, _≤_, _<_}
 use mathlib.Core.Path.{_≡_, refl, ap, sym, _∙_}
@@ -9,7 +9,7 @@ use lib.ListN.{length, getD}
 use Rattle.layout.specs.declared.Entry.{Entry}
 use Rattle.layout.specs.Calls.{Told}
 use Rattle.laws.specs.Contents.{Tiles}
-use Rattle.records.specs.Words.{recordWords}
+use Rattle.records.specs.Words.{formerWords, recordWords}
 use Rattle.records.specs.Exports.{checkCall, listCall}
 use Rattle.promises.specs.Words.{Counts, Item, here, there, tellsCheck}
 use Rattle.promises.specs.Listing.{ListOf}
@@ -26,6 +26,10 @@ tiles-next : (p : ℕ) (xs : List Entry) (q j : ℕ) (x y : Entry) → Tiles p x
 tiles-next p (x ∷ []) q zero _ _ t here (there i) = no-item i
 tiles-next p (x ∷ y ∷ xs) q zero _ _ t here (there here) = omega (arith, t .0, t .4 .0)
 tiles-next p (z ∷ xs) q (suc j) x y t (there i) (there k) = tiles-next (p + z .size) xs q j x y (t .4) i k
+
+tiles-whole : (p : ℕ) (xs : List Entry) (q j : ℕ) (x : Entry) → Tiles p xs q → Item xs j x → x .place .0 + x .size ≡ x .value .place .0 + x .value .len
+tiles-whole p (x ∷ xs) q zero _ t here = omega (arith, t .0, t .3)
+tiles-whole p (z ∷ xs) q (suc j) x t (there i) = tiles-whole (p + z .size) xs q j x (t .4) i
 
 tiles-last : (p : ℕ) (xs : List Entry) (q j : ℕ) (x : Entry) → Tiles p xs q → Item xs j x → suc j ≡ length xs → x .place .0 + x .size ≡ q
 tiles-last p (x ∷ []) q zero _ t here e = omega (arith, t .0, t .4)
@@ -68,10 +72,15 @@ module _ (f e : ℕ) (image : List ℕ) (bs : Bytes image) (n : ℕ) (c : Counts
             let y = item-some (l .entries) (suc j) (omega (arith, many)) in
             let after : Item (l .entries) (j + 1) (y .0) = rw add-one (y .1) in
             ends m fits new j (x .0) (x .1) ∙ tiles-next (l .start) (l .entries) (l .end) j (x .0) (y .0) (l .tiled) (x .1) (y .1) ∙ sym (place m fits (j + 1) (y .0) after);
+        whole = λ new m fits j lt.
+            let x = item-some (l .entries) j (rw many at lt) in
+            let w : (k : ℕ) → k < 7 → recordWord (listCall f e image m .memory) j k ≡ getD (formerWords (x .0)) k 0
+            = (λ k low. reads m fits j (x .0) (x .1) k (omega (arith, low)) ∙ word-kept e (x .0) k (λ q. omega (arith, q, low))) in
+            ends m fits new j (x .0) (x .1) ∙ tiles-whole (l .start) (l .entries) (l .end) j (x .0) (l .tiled) (x .1) ∙ sym (rw (w 5 (omega arith), w 6 (omega arith)));
         last = λ new m fits j q.
             let x = item-some (l .entries) j (omega (arith, many)) in
             let s = ends m fits new j (x .0) (x .1) ∙ tiles-last (l .start) (l .entries) (l .end) j (x .0) (l .tiled) (x .1) (omega (arith, many)) in
-            rw s (l .begins);
+            rw s (l .closed);
       }
 
 pub frames-from-c : (f e : ℕ) (image : List ℕ) → Bytes image → (n : ℕ) → Counts (tellsCheck f e image) n → FramesFromC f e image

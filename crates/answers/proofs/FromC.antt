@@ -8,7 +8,7 @@ use native.Mathlib.Omega.{arith}
 use lib.ListN.{length, getD, take, replicate, length-append, length-replicate}
 use lib.Seq.{drop-at, getD-take, getD-append-add}
 use lib.Dec.{leb, eqb}
-use borrow.Author.Tests.{eqb-true}
+use borrow.Author.Tests.{eqb-true, le-leb}
 use Rattle.layout.specs.declared.Format.{Format}
 use Rattle.layout.specs.declared.Entry.{Entry}
 use Rattle.layout.specs.declared.Field.{Field}
@@ -52,13 +52,13 @@ use Rattle.promises.proofs.RoundTrip.{round-trip}
 use Rattle.promises.proofs.OlderReads.{older-reads}
 use Rattle.promises.proofs.OlderEdits.{older-edits}
 use Rattle.answers.specs.Whole.{numberOf, countOf}
-use Rattle.answers.specs.FromC.{Bytes, OneOf, NumbersFromC, FieldsFromC, fieldWords, fieldsBytes, recordWord, recordSays, KindFromC, AcceptedFromC, WrittenFromC, SameRecord, OlderFromC, FromC}
+use Rattle.answers.specs.FromC.{Bytes, OneOf, NumbersFromC, FieldsFromC, WalkFromC, fieldWords, fieldsBytes, recordWord, recordSays, KindFromC, AcceptedFromC, WrittenFromC, SameRecord, OlderFromC, FromC}
 use Rattle.answers.proofs.Records.{words-before}
 use Rattle.answers.proofs.Lent.{packed-taken, list-lent, stepped-recorded}
 use Rattle.answers.proofs.Packing.{whole-told}
 use Rattle.answers.proofs.Whole.{whole-reads}
 use Rattle.answers.proofs.Readings.{each-take}
-use Rattle.answers.proofs.ReadBack.{blank, each-item, item-some, word-kept, word-framed, record-words, record-said, reads-back}
+use Rattle.answers.proofs.ReadBack.{blank, each-item, item-some, word-kept, word-former, word-framed, record-words, record-said, reads-back}
 use Rattle.answers.proofs.FramesBack.{check-counted, frames-from-c}
 
 -- ---- numbers
@@ -158,6 +158,14 @@ unfolding fieldsIn
 fields-from-c =
     items-in-back (λ x. Each (λ w. w < 4294967296) (fieldWords x)) 20 fieldAt (λ x. wordsBytes (fieldWords x)) fieldsBytes refl (λ x xs. refl) (omega arith)
     (λ x. length-words (fieldWords x)) field-back
+
+-- the four words of a walk are read back
+pub walk-from-c : WalkFromC
+walk-from-c f e low high more fits =
+    let words : List ℕ = f ∷ e ∷ low ∷ high ∷ [] in
+    let back : (k : ℕ) → k < 4 → word (k * 4) (wordsBytes words ++ more) ≡ getD words k 0 = (λ k lt. words-before words more k fits lt) in
+    let long : 16 ≤ length (wordsBytes words ++ more) = omega (arith, length-append (wordsBytes words) more, length-words words) in
+    rw (le-leb 16 (length (wordsBytes words ++ more)) long) (back 0 (omega arith), back 1 (omega arith), rw (back 2 (omega arith), back 3 (omega arith)))
 
 -- ---- what C sees taken is taken
 
@@ -302,6 +310,7 @@ module _ (g : Format) (o : ℕ) (image older newer : List ℕ) (j : ℕ) (x y : 
       let code : recordWord older j 0 ≡ x .code = old-word 0 (omega arith) (λ q. omega (arith, q)) in
       record {
         placed = λ k lt other. old-word k (omega arith) (λ q. omega (arith, q)) ∙ same-places k lt other ∙ sym (new-word k (omega arith) (λ q. omega (arith, q)));
+        former = λ low. old 7 (omega arith) ∙ word-former o x low;
         framed = λ four. old 7 (omega arith) ∙ word-framed o x four ∙ a .size ∙ sym (new 7 (omega arith) ∙ word-framed n y (omega (arith, four, le)));
         named = λ s k lt other.
             let q = a .kept (rw code at s) in
@@ -341,6 +350,7 @@ from-c =
     record {
       numbers = numbers-from-c;
       fields = fields-from-c;
+      walk = walk-from-c;
       accepted = λ f e image bs z. let c = check-counts f e image z in accepted-from-c f e image bs (c .0) (c .1);
       written = written-from-c;
       older = λ f o n g image bs serves le z. let c = check-counts f n image z in older-from-c f o n g image bs (c .0) serves le (c .1);

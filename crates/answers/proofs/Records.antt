@@ -8,7 +8,7 @@ use native.Mathlib.Omega.{arith}
 use lib.ListN.{length, getD, replicate, List·getD-append}
 use lib.Seq.{getD-append-add}
 use lib.Dec.{leb}
-use borrow.Author.Tests.{lt-leb}
+use borrow.Author.Tests.{le-leb, lt-leb}
 use Rattle.layout.specs.declared.Format.{Format}
 use Rattle.layout.specs.declared.Format.the-variants.{Fboss, Vpd, Tiny, Onie}
 use Rattle.layout.specs.declared.Entry.{Entry}
@@ -30,10 +30,10 @@ use Rattle.laws.proofs.Lists.{each-left, each-right, each-append}
 use Rattle.laws.proofs.Passes.{raw-code}
 use Rattle.laws.proofs.Walking.{Frames}
 use Rattle.laws.proofs.Calls.{accepted-reading}
-use Rattle.records.specs.Words.{wordBytes, wordsBytes, readingWords, recordWords, recordBytes}
+use Rattle.records.specs.Words.{wordBytes, wordsBytes, recordWords, recordBytes}
 use Rattle.records.proofs.Words.{length-words, record-sixteen}
 use Rattle.promises.proofs.Entries.{Inside, held}
-use Rattle.answers.specs.Records.{WholeRecord, WholeRecords, FormerRecords}
+use Rattle.answers.specs.Records.{WholeRecord, WholeRecords, wordsWith, RecordsByEdition}
 use Rattle.answers.proofs.Readings.{Bytes, Words, each-take, each-part, byte-of, then, reading-words}
 
 -- ---- words in bytes
@@ -86,7 +86,7 @@ record-whole e x c k i r =
     let whole = either Words (leb 4 e) (λ _. fits (x .size) (omega arith)) (λ _. fits 0 (omega arith)) in
     record { fits = whole; sixteen = sixteen; read = λ k lt. words-back (recordWords e x) k whole (omega arith) }
   where
-    fits : (w : ℕ) → w < 4294967296 → Words (x .code ∷ x .kind ∷ x .place .0 ∷ x .key .place .0 ∷ x .key .len ∷ x .value .place .0 ∷ x .value .len ∷ w ∷ readingWords (x .reading))
+    fits : (w : ℕ) → w < 4294967296 → Words (wordsWith w x)
     fits w lt =
         then (x .code) c
         (then (x .kind) k
@@ -141,8 +141,8 @@ whole-records f e img bs = go (readImage f e img) refl
         entries-whole g e false start rs (h .frames) (each-left (flat rs) _ (each-right H _ (rw (m .is) at bs))) (h .inside)
     go (refused r) q = none
 
--- ---- editions 1 to 3
+-- ---- records by edition
 
-pub former-records : FormerRecords
+pub records-by-edition : RecordsByEdition
 unfolding recordBytes
-former-records e x le = rw (lt-leb 4 e (omega arith))
+records-by-edition = record { former = λ e x le. rw (lt-leb 4 e (omega arith)); framed = λ e x le. rw (le-leb 4 e le) }

@@ -16,7 +16,7 @@ use Rattle.layout.specs.Write.{word, fieldsIn}
 use Rattle.laws.specs.Contents.{replaced}
 use Rattle.laws.specs.Grammar.{Each, Published}
 use Rattle.records.specs.Words.{wordsBytes}
-use Rattle.records.specs.Exports.{checkCall, valueCall, stringCall, entryCall, listCall, stepCall, writeCall, editCall}
+use Rattle.records.specs.Exports.{checkCall, valueCall, stringCall, entryCall, listCall, walkFormat, walkEdition, walkEntry, stepCall, writeCall, editCall}
 use Rattle.promises.specs.Words.{Serves, Item}
 use Rattle.promises.specs.Listing.{EndsAt}
 use Rattle.promises.specs.Names.{Named}
@@ -81,6 +81,15 @@ fieldsBytes (x ∷ xs) = wordsBytes (fieldWords x) ++ fieldsBytes xs
 abbrev pub FieldsFromC : Type 0
 FieldsFromC = (fields : List Field) (cut : List ℕ) → Each (λ x. Each (λ w. w < 4294967296) (fieldWords x)) fields → length cut < 20 → fieldsIn (fieldsBytes fields ++ cut) ≡ fields
 
+-- ---- how C lends a walk
+
+-- format, edition and the entry number in two words, low word first, each below 2^32, whatever follows them
+abbrev pub WalkFromC : Type 0
+WalkFromC =
+    (f e low high : ℕ) (more : List ℕ) → Each (λ w. w < 4294967296) (f ∷ e ∷ low ∷ high ∷ []) →
+    let walk = wordsBytes (f ∷ e ∷ low ∷ high ∷ []) ++ more in
+    (walkFormat walk ≡ f) × (walkEdition walk ≡ e) × (walkEntry walk ≡ low + high * 4294967296)
+
 -- ---- demand 2
 
 -- what was written reads back, in the whole output and in its part up to the length given
@@ -101,8 +110,8 @@ pub record KindFromC (f e : ℕ) (format : Format) (image records : List ℕ) (j
   pub kindless : (Named format e (recordWord records j 0) → ⊥) → recordWord records j 1 ≡ 0
   pub unread : (Named format e (recordWord records j 0) → ⊥) → (k : ℕ) → k < 8 → recordWord records j (8 + k) ≡ 0
 
--- word 7, of an accepted image: 0 in editions 1 to 3. From edition 4 on it is the length of the whole frame: a record's first byte and it together are the first byte of the next record,
--- and of the last one where the end begins
+-- word 7, of an accepted image: 0 in editions 1 to 3. From edition 4 on it is the length of the whole frame, which ends with the value: a record's first byte and it together are the first byte of
+-- the next record, and of the last one where the end stands
 pub record FramesFromC (f e : ℕ) (image : List ℕ) : Type 0 where
   pub format : Format
   pub serves : Serves f e format
@@ -110,6 +119,8 @@ pub record FramesFromC (f e : ℕ) (image : List ℕ) : Type 0 where
       recordWord (listCall f e image m .memory) j 7 ≡ 0
   pub next : 4 ≤ e → (m : List ℕ) → countOf (checkCall f e image) * 64 ≤ length m → (j : ℕ) → j + 1 < countOf (checkCall f e image) →
       let records = listCall f e image m .memory in recordWord records j 2 + recordWord records j 7 ≡ recordWord records (j + 1) 2
+  pub whole : 4 ≤ e → (m : List ℕ) → countOf (checkCall f e image) * 64 ≤ length m → (j : ℕ) → j < countOf (checkCall f e image) →
+      let records = listCall f e image m .memory in recordWord records j 2 + recordWord records j 7 ≡ recordWord records j 5 + recordWord records j 6
   pub last : 4 ≤ e → (m : List ℕ) → countOf (checkCall f e image) * 64 ≤ length m → (j : ℕ) → j + 1 ≡ countOf (checkCall f e image) →
       let records = listCall f e image m .memory in EndsAt format image (recordWord records j 2 + recordWord records j 7)
 
@@ -125,11 +136,12 @@ pub record AcceptedFromC (f e : ℕ) (image : List ℕ) : Type 0 where
 
 -- ---- demand 3
 
--- record j of an older edition's list, beside a newer one's: but for word 7 all words are the same where the older edition names the code; else kind and reading are 0 and the others
--- the same. Word 7 is the same where the older edition has it
+-- record j of an older edition's list, beside a newer one's. Word 7 aside, all words are the same where the older edition names the code; else kind and reading are 0 and the others the same.
+-- Word 7 is the same where the older edition is 4 or later, and else 0 in its record
 pub record SameRecord (format : Format) (o : ℕ) (older newer : List ℕ) (j : ℕ) : Type 0 where
   pub placed : (k : ℕ) → k < 7 → (k ≡ 1 → ⊥) → recordWord older j k ≡ recordWord newer j k
   pub framed : 4 ≤ o → recordWord older j 7 ≡ recordWord newer j 7
+  pub former : o ≤ 3 → recordWord older j 7 ≡ 0
   pub named : Named format o (recordWord older j 0) → (k : ℕ) → k < 16 → (k ≡ 7 → ⊥) → recordWord older j k ≡ recordWord newer j k
   pub kindless : (Named format o (recordWord older j 0) → ⊥) → recordWord older j 1 ≡ 0
   pub unread : (Named format o (recordWord older j 0) → ⊥) → (k : ℕ) → 8 ≤ k → k < 16 → recordWord older j k ≡ 0
@@ -153,6 +165,7 @@ pub record EditedFromC (f n : ℕ) (image : List ℕ) (i : ℕ) (value output : 
 pub record FromC : Type 0 where
   pub numbers : NumbersFromC
   pub fields : FieldsFromC
+  pub walk : WalkFromC
   pub accepted : (f e : ℕ) (image : List ℕ) → Bytes image → numberOf (checkCall f e image) ≡ 0 → AcceptedFromC f e image
   pub written : WrittenFromC
   pub older : (f o n : ℕ) (format : Format) (image : List ℕ) → Bytes image → Serves f o format → o ≤ n → numberOf (checkCall f n image) ≡ 0 → OlderFromC f o n image

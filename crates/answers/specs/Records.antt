@@ -20,9 +20,12 @@ pub record WholeRecord (e : ℕ) (x : Entry) : Type 0 where
 abbrev pub WholeRecords : Type 0
 WholeRecords = (f e : ℕ) (img : List ℕ) → Each (λ b. b < 256) img → Each (WholeRecord e) (entriesIn f e img)
 
--- the record that editions 1 to 3 give out is, byte for byte, the one of before edition 4: its words in the order of docs/C-INTERFACE.md, and a 0 as word 7
-abbrev pub FormerRecords : Type 0
-FormerRecords =
-    (e : ℕ) (x : Entry) → e ≤ 3 →
-    recordBytes e x
-    ≡ wordsBytes (x .code ∷ x .kind ∷ x .place .0 ∷ x .key .place .0 ∷ x .key .len ∷ x .value .place .0 ∷ x .value .len ∷ 0 ∷ take 8 (toldReading (x .reading) ++ replicate 8 0))
+-- the words of a record, with w as word 7
+abbrev pub wordsWith : ℕ → Entry → List ℕ
+wordsWith w x =
+    x .code ∷ x .kind ∷ x .place .0 ∷ x .key .place .0 ∷ x .key .len ∷ x .value .place .0 ∷ x .value .len ∷ w ∷ take 8 (toldReading (x .reading) ++ replicate 8 0)
+
+-- editions 1 to 3 give out, byte for byte, the record of before edition 4; from edition 4 on word 7 is the length of the whole frame
+pub record RecordsByEdition : Type 0 where
+  pub former : (e : ℕ) (x : Entry) → e ≤ 3 → recordBytes e x ≡ wordsBytes (wordsWith 0 x)
+  pub framed : (e : ℕ) (x : Entry) → 4 ≤ e → recordBytes e x ≡ wordsBytes (wordsWith (x .size) x)

@@ -372,7 +372,7 @@ wanted (tells t answer) = said answer
 wanted (settles x answer) = settled answer
 wanted (shows image x answer) = bytes answer
 
--- ---- the cases that 01 marks P, each in editions 1 to 3 where there is one
+-- ---- the cases that 01 marks P, each in every edition where there is one
 
 abbrev pub cases : List Case
 cases =

@@ -192,6 +192,7 @@ cases =
     ∷ edits 4 3 board 0 (text "XYZ") (replicate 44 7) (Wrote 42)
     (onieOf (hex "21 03 58 59 5A 2A 02 00 03 99 02 01 02 FD 04 01 02 03 04 FD 04 05 06 07 08") (hex "03 10 EE 37") ++ hex "FF FF")
     ∷ edits 4 3 board 0 [] (replicate 39 7) (Wrote 39) (onieOf (hex "21 00 2A 02 00 03 99 02 01 02 FD 04 01 02 03 04 FD 04 05 06 07 08") (hex "A8 5D F4 AF"))
+    ∷ edits 4 4 board 1 (hex "FF 00") (replicate 40 7) (Wrote 40) (onieOf (hex "21 01 41 2A 02 FF 00 99 02 01 02 FD 04 01 02 03 04 FD 04 05 06 07 08") (hex "24 D4 7C 63"))
     ∷ edits 4 3 board 1 (hex "FF 00") (replicate 40 7) (Wrote 40) (onieOf (hex "21 01 41 2A 02 FF 00 99 02 01 02 FD 04 01 02 03 04 FD 04 05 06 07 08") (hex "24 D4 7C 63"))
     ∷ edits 4 3 board 3 (hex "09 08 07 06 05") (replicate 41 7) (Wrote 41)
     (onieOf (hex "21 01 41 2A 02 00 03 99 02 01 02 FD 05 09 08 07 06 05 FD 04 05 06 07 08") (hex "05 41 96 C4"))

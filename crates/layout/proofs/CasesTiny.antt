@@ -229,6 +229,7 @@ cases =
     ∷ strings 4 9 noTags 0 (nowhere 16 0) []
     ∷ strings 5 9 noTags 0 (nowhere 16 0) []
     ∷ strings 3 5 noTags 0 (nowhere 1 0) []
+    ∷ strings 3 4 noTags 0 (nowhere 15 0) []
     ∷ strings 3 0 noTags 0 (nowhere 1 0) []
     ∷ strings 3 9 (hex "56") 0 (nowhere 1 0) []
     ∷ strings 3 1 (hex "56 02 05 00 00") 0 (nowhere 6 3) []

@@ -31,7 +31,7 @@ everyForm = hex "01 01 41 00 01 80 01 42 80 01 58 01 80 80 01 43 80 80 02 59 5A 
 
 -- the same after an edit of the second value, whose length is then in its shortest form
 abbrev pub everyFormEdited : List ℕ
-everyFormEdited = hex "01 01 41 00 01 80 01 42 02 56 57 01 80 80 01 43 80 80 02 59 5A FE 80 80 80 01 44 80 80 80 04 01 02 03 04 00"
+everyFormEdited = hex "01 01 41 00 01 80 01 42 03 56 57 58 01 80 80 01 43 80 80 02 59 5A FE 80 80 80 01 44 80 80 80 04 01 02 03 04 00"
 
 -- an FEh without a key, and a value of n bytes
 abbrev pub feh : ℕ → List ℕ
@@ -112,12 +112,16 @@ cases =
     ∷ finds 2 2 (hex "FE 80 80 80 01 41 80 80 80 04 01 02 03 04 00") 0 (Found (keyed 0xFE 766 0 14 5 1 10 4))
     ∷ finds 2 2 longValue 0 (Found (keyed 0x01 513 0 133 2 1 5 128))
     ∷ finds 2 1 longKey 0 (Found (keyed 0x01 513 0 136 4 130 135 1))
-    -- the length of a whole frame has the length bytes as they are stored, in every edition, and after an edit by an older one
+    -- the length of a whole frame has the length bytes as they are stored, in the first edition as in the last, and after an edit by an older one
     ∷ lists 2 4 everyForm (keyed 0x01 513 0 4 2 1 4 0 ∷ keyed 0x01 513 4 7 7 1 10 1 ∷ keyed 0x01 513 11 10 15 1 19 2 ∷ keyed 0xFE 766 21 14 26 1 31 4 ∷ [])
     ∷ lists 2 1 everyForm (keyed 0x01 513 0 4 2 1 4 0 ∷ keyed 0x01 513 4 7 7 1 10 1 ∷ keyed 0x01 513 11 10 15 1 19 2 ∷ keyed 0xFE 0 21 14 26 1 31 4 ∷ [])
     ∷ steps 2 4 2 everyForm (Found (keyed 0x01 513 11 10 15 1 19 2)) 3
-    ∷ edits 2 1 everyForm 1 (text "VW") (replicate 38 7) (Wrote 36) (everyFormEdited ++ hex "FF FF")
-    ∷ lists 2 4 (everyFormEdited ++ hex "FF FF") (keyed 0x01 513 0 4 2 1 4 0 ∷ keyed 0x01 513 4 7 7 1 9 2 ∷ keyed 0x01 513 11 10 15 1 19 2 ∷ keyed 0xFE 766 21 14 26 1 31 4 ∷ [])
+    ∷ edits 2 1 everyForm 1 (text "VWX") (replicate 39 7) (Wrote 37) (everyFormEdited ++ hex "FF FF")
+    ∷ lists 2 4 (everyFormEdited ++ hex "FF FF") (keyed 0x01 513 0 4 2 1 4 0 ∷ keyed 0x01 513 4 8 7 1 9 3 ∷ keyed 0x01 513 12 10 16 1 20 2 ∷ keyed 0xFE 766 22 14 27 1 32 4 ∷ [])
+    ∷ values 2 4 everyForm 3 (At (partAt 31 4)) (hex "01 02 03 04")
+    -- a frame of more than 256 bytes, and one whose value has a length of three bytes
+    ∷ finds 2 4 (hex "01 01 41 82 00" ++ replicate 256 0x42 ++ hex "00") 0 (Found (keyed 0x01 513 0 261 2 1 5 256))
+    ∷ finds 2 4 (hex "01 01 41 81 80 00" ++ replicate 16384 0x42 ++ hex "00") 0 (Found (keyed 0x01 513 0 16390 2 1 6 16384))
     -- a frame before a rule
     ∷ alike 2 (hex "01 00 00 02 00") (refuses 6 3)
     ∷ alike 2 (hex "01 00 00 01") (refuses 5 3)

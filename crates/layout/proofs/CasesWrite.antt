@@ -42,6 +42,7 @@ cases =
     ∷ writes 2 2 [] [] [] (unwritten 12 0) []
     ∷ writes 3 1 [] [] (replicate 5 7) (Wrote 4) (hex "56 02 04 6F FF")
     ∷ writes 3 2 [] [] (replicate 4 7) (Wrote 4) (hex "56 02 04 6F")
+    ∷ writes 3 4 [] [] (replicate 4 7) (Wrote 4) (hex "56 02 04 6F")
     ∷ writes 3 1 [] [] (replicate 3 7) (unwritten 12 0) (replicate 3 7)
     -- ---- the five required FBOSS fields: one byte more than needed, just enough, one less
     ∷ writes 1 1 fiveFields lent (replicate 24 7) (Wrote 23) (fbossOf five 0x4826 ++ hex "FF")

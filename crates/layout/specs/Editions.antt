@@ -1,4 +1,4 @@
--- Formats, editions, names and kinds (01, "Editions and kinds"; 02, "ONIE images and edition 3").
+-- Formats, editions, names and kinds (01, "Editions and kinds"; 02, "ONIE images and edition 3", "Entries remember their whole frame").
 -- Assumes nothing.
 use Prim.Native.Nat.{ℕ, _+_, _*_}
 use mathlib.Core.List.{List, [], _∷_}
@@ -21,7 +21,7 @@ shape Vpd = vpd
 shape Tiny = tiny
 shape Onie = onie
 
--- 01's term "edition": the editions of the header that are known
+-- 01's term "edition": those that are known; 1 and 2 are 01's, 3 and 4 are 02's
 abbrev pub knownEdition : ℕ → Bool
 knownEdition e = between 1 4 e
 

@@ -78,7 +78,7 @@ pub struct Entry {
     pub kind: u32,
     // of the entry's first byte
     pub place: Place,
-    // 02's "length of the whole frame", with the length bytes as they are stored: the next entry or the end begins so many bytes after the first
+    // 02's "length of the whole frame", with the length bytes as they are stored: the next entry or the end begins so many bytes after this one's first byte
     pub size: usize,
     pub key: Part,
     pub value: Part,

@@ -101,12 +101,19 @@ pub ends-at : (g : Format) (image : List ℕ) (end : ℕ) (closing rest before :
     image ≡ before ++ (closing ++ (shape g .check before ++ rest)) → EndsAt g image end
 ends-at g image end closing rest before closes long is =
     let o = end-opens g closing rest before closes in
+    let front : take end image ≡ before = ap (take end) is ∙ take-at before _ end long in
+    let after : drop end image ≡ closing ++ (shape g .check before ++ rest) = ap (drop end) is ∙ drop-at before _ end long in
     let whole : image ≡ before ++ (o .byte ∷ o .rest) = is ∙ ap (λ (t : List ℕ). before ++ t) (o .is) in
-    rw (← long, whole)
-    (record {
-      inside = omega (arith, length-append before (o .byte ∷ o .rest));
-      byte = rw (byte-after before (o .byte) (o .rest), take-at before (o .byte ∷ o .rest) (length before) refl) (o .ends);
-    })
+    let byte : getD image end 0 ≡ o .byte = rw (← long, whole) (byte-after before (o .byte) (o .rest)) in
+    let size : length image ≡ length before + length (o .byte ∷ o .rest) = ap length whole ∙ length-append before (o .byte ∷ o .rest) in
+    record {
+      inside = omega (arith, size, long);
+      byte = rw (byte, front) (o .ends);
+      closing = closing;
+      rest = rest;
+      closes = closes;
+      ends = rw front after;
+    }
 
 -- ---- the list
 
@@ -123,7 +130,6 @@ list-of f e image n x =
     let size : end - x .start ≡ length entries = omega arith in
     let long : length (header ++ entries) ≡ end = omega (arith, length-append header entries, m .starts) in
     let whole : image ≡ (header ++ entries) ++ (m .closing ++ (S .check (header ++ entries) ++ m .rest)) = m .is ∙ sym (append-assoc header entries _) in
-    let body : take end image ≡ header ++ entries = ap (take end) whole ∙ take-at (header ++ entries) _ end long in
     record {
       format = g;
       serves = chosen-serves f e g (r .known);
@@ -135,11 +141,7 @@ list-of f e image n x =
       headed = rw size (ap (take (x .start)) (m .is) ∙ take-at header _ (x .start) (sym (m .starts)));
       tiled = records-tile (laws g) e false (x .raws) (x .start) (m .frames);
       each = rw (m .is) (each-tile g e false (x .raws) (x .start) header _ (m .frames) (sym (m .starts)));
-      begins = ends-at g image end (m .closing) (m .rest) (header ++ entries) (m .closes) long whole;
-      closing = m .closing;
-      rest = m .rest;
-      closes = m .closes;
-      ends = rw body (ap (drop end) whole ∙ drop-at (header ++ entries) _ end long);
+      closed = ends-at g image end (m .closing) (m .rest) (header ++ entries) (m .closes) long whole;
     }
 
 pub listing : Listing

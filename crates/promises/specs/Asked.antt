@@ -1,4 +1,4 @@
--- What no call takes (01, "Order"; 02, "ONIE images and edition 3"): a format that is not 1 to 4 is 16, then an edition that is not 1 to 4 is 1, then a format that the edition does not have is 16,
+-- What no call takes (01, "Order"; 02, "ONIE images and edition 3", "Entries remember their whole frame"): a format that is not 1 to 4 is 16, then an edition that is not 1 to 4 is 1, then a format that the edition does not have is 16,
 -- then an image or an output above 65,536 bytes is 2; each at 0.
 -- Assumes nothing.
 use Prim.Native.Nat.{ℕ, _<_}

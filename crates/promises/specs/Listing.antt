@@ -22,17 +22,21 @@ pub record Tile (format : Format) (image : List ℕ) (x : Entry) : Type 0 where
   pub entry : EntryOf (grammar format) (part (x .place .0) (x .size) image) (said image x)
   pub keyless : (format ≡ Vpd → ⊥) → x .key ≡ partAt (x .value .place .0) 0
 
--- the byte with which the end begins, after all these bytes: FBOSS's code 250, VPD's end byte, Tiny's check byte, ONIE's FEh
+-- the byte with which the end begins, in an image that has these bytes before it: FBOSS's code 250, VPD's end byte, Tiny's check byte, ONIE's FEh
 abbrev pub EndByte : Format → List ℕ → ℕ → Type 0
 EndByte Fboss before b = b ≡ 250
 EndByte Vpd before b = (b ≡ 0x00) ⊎ (b ≡ 0xFF)
 EndByte Tiny before b = b ≡ check8Of 0 before
 EndByte Onie before b = b ≡ 0xFE
 
--- the end of an image begins at q
+-- the end of an image stands at q: its first byte, what closes the entries, and the right check over all bytes before q
 pub record EndsAt (format : Format) (image : List ℕ) (q : ℕ) : Type 0 where
   pub inside : q < length image
   pub byte : EndByte format (take q image) (getD image q 0)
+  pub closing : List ℕ
+  pub rest : List ℕ
+  pub closes : grammar format .Closing closing
+  pub ends : drop q image ≡ closing ++ (shape format .check (take q image) ++ rest)
 
 -- the list of an accepted image with n entries, whose header ends at `start` and whose entries end at `end`
 pub record ListOf (f e : ℕ) (image : List ℕ) (n : ℕ) : Type 0 where
@@ -46,12 +50,7 @@ pub record ListOf (f e : ℕ) (image : List ℕ) (n : ℕ) : Type 0 where
   pub headed : take start image ≡ shape format .header (end - start)
   pub tiled : Tiles start entries end
   pub each : Each (Tile format image) entries
-  -- the entries end where the closing stands, and the check after it is right
-  pub begins : EndsAt format image end
-  pub closing : List ℕ
-  pub rest : List ℕ
-  pub closes : grammar format .Closing closing
-  pub ends : drop end image ≡ closing ++ (shape format .check (take end image) ++ rest)
+  pub closed : EndsAt format image end
 
 -- of every image that an edition accepts
 abbrev pub Listing : Type 0

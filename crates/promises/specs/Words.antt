@@ -24,7 +24,7 @@ pub data FormatNumber : ℕ → Format → Type 0 where
   tiny : FormatNumber 3 Tiny
   onie : FormatNumber 4 Onie
 
--- 01's term "edition": the known ones are 1 to 4
+-- 01's term "edition": the known ones are 1 and 2, and 02's 3 and 4
 abbrev pub KnownEdition : ℕ → Type 0
 KnownEdition e = (1 ≤ e) × (e ≤ 4)
 
