@@ -56,7 +56,6 @@ use Rattle.answers.specs.FromC.{Bytes, OneOf, NumbersFromC, FieldsFromC,
 use Rattle.answers.proofs.Records.{words-before}
 use Rattle.answers.proofs.Lent.{packed-taken, list-lent, stepped-recorded}
 use Rattle.answers.proofs.Packing.{whole-told}
-use Rattle.answers.proofs.Whole.{whole-reads}
 use Rattle.answers.proofs.Readings.{each-take}
 use Rattle.answers.proofs.ReadBack.{blank, each-item, item-some, word-kept, word-former, word-framed, record-words, record-said, reads-back}
 use Rattle.answers.proofs.FramesBack.{check-counted, frames-from-c}

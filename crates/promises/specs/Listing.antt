@@ -29,7 +29,7 @@ EndByte Vpd before b = (b ≡ 0x00) ⊎ (b ≡ 0xFF)
 EndByte Tiny before b = b ≡ check8Of 0 before
 EndByte Onie before b = b ≡ 0xFE
 
--- the end of an image stands at q: its first byte, what closes the entries, and the right check over all bytes before q
+-- the end of an image stands at q: its first byte is as above, and from q on stand what closes the entries, where anything does, and the right check
 pub record EndsAt (format : Format) (image : List ℕ) (q : ℕ) : Type 0 where
   pub inside : q < length image
   pub byte : EndByte format (take q image) (getD image q 0)
