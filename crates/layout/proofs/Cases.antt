@@ -39,7 +39,10 @@ use Rattle.layout.specs.Read.{sealed, seenBefore, readerRule, fault, jud
 use Rattle.layout.specs.Calls.{Listed, Step, entryOf, entriesOf, entriesIn, checkImage, listEntries, nth, entryAt, bytesAt, verdict, valueAt}
 use Rattle.layout.specs.Calls.{stepFrom, stringIn, poolString, stringAt, toldReading, Told}
 use Rattle.layout.specs.Write.{items, fieldsIn, writerRule, fieldFault, judgeFields, entryBytes, entriesBytes, imageOf, put, writeAs, writeImage, Outcome}
-use Rattle.layout.specs.Edit.{revalued, editedBytes, editRule, mayEdit, editEntry}
+use Rattle.layout.specs.Change.{laid, mayChange, inPlace, changeImage}
+use Rattle.layout.specs.Edit.{revalued, editRule, edit, editEntry}
+use Rattle.layout.specs.Add.{mayAdd, addedEntries, addition, addField}
+use Rattle.layout.specs.Remove.{removal, removeEntry}
 
 -- ---- bytes, in short
 
@@ -271,12 +274,16 @@ pub data Case : Type 0 where
   steps : (format edition n : ℕ) (image : List ℕ) (answer : Lookup) (back : ℕ) → Case
   -- the fields that lie in lent bytes
   lies : (s : List ℕ) (answer : List Field) → Case
-  -- a write and an edit: the answer, and the output
+  -- a write, an edit, an addition and a removal: the answer, and the output
   writes : (format edition : ℕ) (fields : List Field) (values out : List ℕ) (answer : Made) (memory : List ℕ) → Case
   edits : (format edition : ℕ) (image : List ℕ) (n : ℕ) (value out : List ℕ) (answer : Made) (memory : List ℕ) → Case
-  -- a write and an edit into an output of so many zeros, that is refused: the output stays
+  adds : (format edition : ℕ) (image : List ℕ) (fields : List Field) (values out : List ℕ) (answer : Made) (memory : List ℕ) → Case
+  removes : (format edition : ℕ) (image : List ℕ) (n : ℕ) (out : List ℕ) (answer : Made) (memory : List ℕ) → Case
+  -- the same into an output of so many zeros, that is refused: the output stays
   unwrites : (format edition : ℕ) (fields : List Field) (values : List ℕ) (room : ℕ) (answer : Refusal) → Case
   unedits : (format edition : ℕ) (image : List ℕ) (n : ℕ) (value : List ℕ) (room : ℕ) (answer : Refusal) → Case
+  unadds : (format edition : ℕ) (image : List ℕ) (fields : List Field) (values : List ℕ) (room : ℕ) (answer : Refusal) → Case
+  unremoves : (format edition : ℕ) (image : List ℕ) (n : ℕ) (room : ℕ) (answer : Refusal) → Case
   -- a write into so many bytes, and what the same edition reads there
   rounds : (format edition : ℕ) (fields : List Field) (values : List ℕ) (room : ℕ) (answer : List Content) → Case
   -- what a reading says, as numbers
@@ -299,7 +306,7 @@ pub data Answer : Type 0 where
   looked-up : Lookup → Answer
   located : Located → List ℕ → Answer
   stepped : Step → Answer
-  laid : List Field → Answer
+  fields : List Field → Answer
   outcome : Outcome → Answer
   contents : List Content → Answer
   said : Told → Answer
@@ -315,7 +322,7 @@ unfolding check16Of check8Of check32Of mirror checkOf byteIn singleBit all oneOf
     chosen sinceIn names kind content walks walk sealed seenBefore readerRule fault judge complete readAs readImage
     entryOf entriesOf entriesIn checkImage listEntries nth entryAt valueAt stepFrom stringIn poolString stringAt toldReading
     items fieldsIn writerRule fieldFault judgeFields entryBytes entriesBytes imageOf put writeAs writeImage
-    revalued editedBytes editRule mayEdit editEntry
+    laid mayChange inPlace changeImage revalued editRule edit mayAdd addedEntries addition removal
 given (check16 s answer) = number (check16Of s)
 given (check8 s answer) = number (check8Of 0 s)
 given (check32 s answer) = number (check32Of s)
@@ -332,11 +339,15 @@ given (finds f e image n answer) = looked-up (entryAt f e image n)
 given (values f e image n answer s) = located (valueAt f e image n) (bytesAt image (valueAt f e image n))
 given (strings f e image n answer s) = located (stringAt f e image n) (bytesAt image (stringAt f e image n))
 given (steps f e n image answer back) = stepped (stepFrom f e n image)
-given (lies s answer) = laid (fieldsIn s)
+given (lies s answer) = fields (fieldsIn s)
 given (writes f e xs lent out answer memory) = outcome (writeImage f e xs lent out)
 given (edits f e image n v out answer memory) = outcome (editEntry f e image n v out)
+given (adds f e image xs lent out answer memory) = outcome (addField f e image xs lent out)
+given (removes f e image n out answer memory) = outcome (removeEntry f e image n out)
 given (unwrites f e xs lent room answer) = outcome (writeImage f e xs lent (replicate room 0))
 given (unedits f e image n v room answer) = outcome (editEntry f e image n v (replicate room 0))
+given (unadds f e image xs lent room answer) = outcome (addField f e image xs lent (replicate room 0))
+given (unremoves f e image n room answer) = outcome (removeEntry f e image n (replicate room 0))
 given (rounds f e xs lent room answer) = contents (contentsRead (readImage f e (writeImage f e xs lent (replicate room 0) .memory)))
 given (says x answer) = bytes (toldReading x)
 given (tells t answer) = said t
@@ -361,11 +372,15 @@ wanted (finds f e image n answer) = looked-up answer
 wanted (values f e image n answer s) = located answer s
 wanted (strings f e image n answer s) = located answer s
 wanted (steps f e n image answer back) = stepped (record { answer = answer; next = back })
-wanted (lies s answer) = laid answer
+wanted (lies s answer) = fields answer
 wanted (writes f e xs lent out answer memory) = outcome (record { answer = answer; memory = memory })
 wanted (edits f e image n v out answer memory) = outcome (record { answer = answer; memory = memory })
+wanted (adds f e image xs lent out answer memory) = outcome (record { answer = answer; memory = memory })
+wanted (removes f e image n out answer memory) = outcome (record { answer = answer; memory = memory })
 wanted (unwrites f e xs lent room answer) = outcome (record { answer = Unwritten answer; memory = replicate room 0 })
 wanted (unedits f e image n v room answer) = outcome (record { answer = Unwritten answer; memory = replicate room 0 })
+wanted (unadds f e image xs lent room answer) = outcome (record { answer = Unwritten answer; memory = replicate room 0 })
+wanted (unremoves f e image n room answer) = outcome (record { answer = Unwritten answer; memory = replicate room 0 })
 wanted (rounds f e xs lent room answer) = contents answer
 wanted (says x answer) = bytes answer
 wanted (tells t answer) = said answer

@@ -8,3 +8,5 @@ pub mod CasesOnieCalls
 pub mod CasesCalls
 pub mod CasesWrite
 pub mod CasesEdit
+pub mod CasesAdd
+pub mod CasesRemove

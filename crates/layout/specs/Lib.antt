@@ -11,4 +11,7 @@ pub mod Walk
 pub mod Read
 pub mod Calls
 pub mod Write
+pub mod Change
 pub mod Edit
+pub mod Add
+pub mod Remove

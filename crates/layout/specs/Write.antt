@@ -117,7 +117,7 @@ imageOf S entries = body S entries ++ (S .closing ++ S .check (body S entries))
 
 -- ---- the output
 
--- the answer of a write or an edit, and what the lent output then is
+-- the answer of a call that makes an image, and what the lent output then is
 pub record Outcome : Type 0 where
   pub answer : Made
   pub memory : List ℕ
