@@ -24,7 +24,7 @@ use Rattle.layout.specs.Walk.{Raw, content, flat}
 use Rattle.layout.specs.Read.{limit, complete, codesOf, Read, accepted, refused, bad, readAs, readChosen, readImage}
 use Rattle.layout.specs.Calls.{checkedBy, checkImage}
 use Rattle.layout.specs.Write.{Outcome, refuse}
-use Rattle.layout.specs.Edit.{editRead, editChosen, editEntry}
+use Rattle.layout.specs.Change.{Change, changeRead, changeChosen, changeImage}
 use Rattle.laws.specs.Grammar.{grammar, Lawful}
 use Rattle.laws.proofs.Walking.{Frames}
 use Rattle.laws.proofs.Images.{Accepts, imageFrom, made-accepted, accepted-made}
@@ -139,19 +139,19 @@ check-found f e image n q = go (readImage f e image) refl q
         record { format = g; start = start; raws = rs; reading = accepted-reading f e image g start rs r; count = (let c : n ≡ length rs = cc in c) }
     go (refused r) x q = let z : _≡_ {A = ℕ} 0 1 = cc in absurd (omega arith)
 
--- ---- edits
+-- ---- changes
 
--- an edit into an output that is not too long, by what its image is read as
-pub edit-read : (f e : ℕ) (image : List ℕ) (i : ℕ) (v out : List ℕ) → length out ≤ limit → editEntry f e image i v out ≡ editRead (readImage f e image) e i v out
-unfolding editEntry readImage
-edit-read f e image i v out le = go (chosen f e)
+-- a change into an output that is not too long, by what its image is read as
+pub change-read : (x : Change) (f e : ℕ) (image out : List ℕ) → length out ≤ limit → changeImage x f e image out ≡ changeRead (readImage f e image) x e out
+unfolding changeImage readImage
+change-read x f e image out le = go (chosen f e)
   where
-    by-test : (g : Format) (t : Bool) → if (t || ltb limit (length out)) (λ _. refuse (refusal 2 0) out) (λ _. editRead (readAs g e image) e i v out)
-        ≡ editRead (if t (λ _. bad 2 0) (λ _. readAs g e image)) e i v out
+    by-test : (g : Format) (t : Bool) → if (t || ltb limit (length out)) (λ _. refuse (refusal 2 0) out) (λ _. changeRead (readAs g e image) x e out)
+        ≡ changeRead (if t (λ _. bad 2 0) (λ _. readAs g e image)) x e out
     by-test g true = refl
     by-test g false = rw (le-ltb limit (length out) le)
 
-    go : (x : Chosen) → editChosen x e image i v out ≡ editRead (readChosen x e image) e i v out
+    go : (y : Chosen) → changeChosen y x e image out ≡ changeRead (readChosen y e image) x e out
     go (Known g) = by-test g (ltb limit (length image))
     go (Unknown n) = refl
 

@@ -5,22 +5,23 @@ use mathlib.Core.Path.{_≡_, refl, ap, ap₂, sym, _∙_}
 use mathlib.Core.List.{List, [], _∷_, _++_, map}
 use mathlib.Core.Bool.{Bool, true, false, _&&_}
 use native.Mathlib.Omega.{arith}
-use lib.ListN.{length, take}
+use lib.ListN.{length, take, length-append}
 use lib.Seq.{take-at}
 use Rattle.layout.specs.declared.Frame.{Frame}
 use Rattle.layout.specs.declared.Head.{Head}
 use Rattle.layout.specs.Bytes.{if, refusal}
 use Rattle.layout.specs.Shape.{Shape, frameOf}
-use Rattle.layout.specs.Editions.{names}
-use Rattle.layout.specs.Walk.{Raw, Content, content, flat}
+use Rattle.layout.specs.Walk.{Raw, Content, content}
 use Rattle.layout.specs.Read.{limit, codesOf}
-use Rattle.layout.specs.Edit.{revalued, editedBytes, editRule, allowed, denied, mayEdit}
+use Rattle.layout.specs.Change.{bytesOf, laid, allowed, denied, inPlace}
+use Rattle.layout.specs.Edit.{revalued, editRule, editAsks, edit}
 use Rattle.laws.specs.Contents.{valued, replaced}
 use Rattle.laws.specs.Grammar.{Grammar}
 use Rattle.laws.proofs.Format.{Laws}
 use Rattle.laws.proofs.Frames.{IsRaw, raw-content}
 use Rattle.laws.proofs.Walking.{Frames}
-use Rattle.laws.proofs.Judging.{RuledAt}
+use Rattle.laws.proofs.Judging.{RuledAt, lawful-replaced}
+use Rattle.laws.proofs.Changing.{rawsInPlace, in-place-bytes, NamedAt, never-denied, may-at, at-may, Leaves}
 use Rattle.laws.proofs.Choices.{both}
 
 -- what stands before the length of a frame's value
@@ -36,56 +37,58 @@ revaluedRaw S r v =
     }
 
 -- entries with another value for entry i
-unfoldable pub editedRaws : Shape → List Raw → ℕ → List ℕ → List Raw
-editedRaws S [] i v = []
-editedRaws S (r ∷ rs) zero v = revaluedRaw S r v ∷ rs
-editedRaws S (r ∷ rs) (suc i) v = r ∷ editedRaws S rs i v
+abbrev pub editedRaws : Shape → List Raw → ℕ → List ℕ → List Raw
+editedRaws S rs i v = rawsInPlace (λ r. revaluedRaw S r v ∷ []) rs i
 
 -- they are the bytes that the edit puts
-pub edited-flat : (S : Shape) (rs : List Raw) (i : ℕ) (v : List ℕ) → flat (editedRaws S rs i v) ≡ editedBytes S rs i v
-unfolding editedRaws revaluedRaw editedBytes
-edited-flat S [] i v = refl
-edited-flat S (r ∷ rs) zero v = refl
-edited-flat S (r ∷ rs) (suc i) v = ap (λ (x : List ℕ). r .bytes ++ x) (edited-flat S rs i v)
+edited-bytes : (S : Shape) (rs : List Raw) (i : ℕ) (v : List ℕ) → bytesOf (editedRaws S rs i v) ≡ edit i v .entries S rs
+unfolding edit revaluedRaw
+edited-bytes S rs i v = in-place-bytes (λ r. revaluedRaw S r v ∷ []) (λ r. revalued S r v ∷ []) (λ r. refl) rs i
 
 -- the codes stay
-pub edited-codes : (S : Shape) (rs : List Raw) (i : ℕ) (v : List ℕ) → codesOf (editedRaws S rs i v) ≡ codesOf rs
-unfolding editedRaws revaluedRaw
+edited-codes : (S : Shape) (rs : List Raw) (i : ℕ) (v : List ℕ) → codesOf (editedRaws S rs i v) ≡ codesOf rs
+unfolding rawsInPlace revaluedRaw
 edited-codes S [] i v = refl
 edited-codes S (r ∷ rs) zero v = refl
 edited-codes S (r ∷ rs) (suc i) v = ap (λ (x : List ℕ). r .frame .code ∷ x) (edited-codes S rs i v)
 
+-- the new value meets the rules of a code
+abbrev pub Takes : Shape → List ℕ → ℕ → Type 0
+Takes S v c = (S .lengthRule c (length v) ≡ true) × (S .valueRule c v ≡ true)
+
 -- what an edit that is allowed may rely on: entry i is named, and the new value meets its rules
 abbrev pub Editable : Shape → ℕ → List Raw → ℕ → List ℕ → Type 0
-Editable S e [] i v = ⊥
-Editable S e (r ∷ rs) zero v = (names S e (r .frame .code) ≡ true) × (S .lengthRule (r .frame .code) (length v) ≡ true) × (S .valueRule (r .frame .code) v ≡ true)
-Editable S e (r ∷ rs) (suc i) v = Editable S e rs i v
+Editable S e rs i v = NamedAt (Takes S v) S e rs i
 
-pub may-editable : (S : Shape) (e p : ℕ) (rs : List Raw) (i : ℕ) (v : List ℕ) → mayEdit S e p rs i v ≡ allowed → Editable S e rs i v
-unfolding mayEdit editRule
-may-editable S e p [] i v q = let z : _≡_ {A = ℕ} 0 1 = cc in omega arith
-may-editable S e p (r ∷ rs) zero v q = go (names S e (r .frame .code)) (S .lengthRule (r .frame .code) (length v) && S .valueRule (r .frame .code) v) refl refl q
+pub may-editable : (S : Shape) (e p : ℕ) (rs : List Raw) (i : ℕ) (v : List ℕ) → edit i v .asks S e p rs ≡ allowed → Editable S e rs i v
+unfolding edit editRule
+may-editable S e p rs i v q = may-at (editAsks S v) (Takes S v) S e takes p rs i q
   where
-    go : (t u : Bool) → names S e (r .frame .code) ≡ t → S .lengthRule (r .frame .code) (length v) && S .valueRule (r .frame .code) v ≡ u →
-        if t (λ _. if u (λ _. allowed) (λ _. denied (refusal 7 p))) (λ _. denied (refusal 14 p)) ≡ allowed → Editable S e (r ∷ rs) zero v
-    go false u n k q = let z : _≡_ {A = ℕ} 0 1 = cc in absurd (omega arith)
-    go true false n k q = let z : _≡_ {A = ℕ} 0 1 = cc in absurd (omega arith)
-    go true true n k q = let b = both (S .lengthRule (r .frame .code) (length v)) (S .valueRule (r .frame .code) v) k in (n, b .0, b .1)
-may-editable S e p (r ∷ rs) (suc i) v q = may-editable S e (p + r .frame .size) rs i v q
+    takes : (c p : ℕ) → editAsks S v c p ≡ allowed → Takes S v c
+    takes c p q = go (S .lengthRule c (length v) && S .valueRule c v) refl q
+      where
+        go : (t : Bool) → S .lengthRule c (length v) && S .valueRule c v ≡ t → if t (λ _. allowed) (λ _. denied (refusal 7 p)) ≡ allowed → Takes S v c
+        go true k q = both (S .lengthRule c (length v)) (S .valueRule c v) k
+        go false k q = never-denied q
 
 -- and such an edit is allowed
-pub editable-may : (S : Shape) (e p : ℕ) (rs : List Raw) (i : ℕ) (v : List ℕ) → Editable S e rs i v → mayEdit S e p rs i v ≡ allowed
-unfolding mayEdit editRule
-editable-may S e p [] i v x = absurd x
-editable-may S e p (r ∷ rs) zero v x = rw (x .0, x .1, x .2)
-editable-may S e p (r ∷ rs) (suc i) v x = editable-may S e (p + r .frame .size) rs i v x
+pub editable-may : (S : Shape) (e p : ℕ) (rs : List Raw) (i : ℕ) (v : List ℕ) → Editable S e rs i v → edit i v .asks S e p rs ≡ allowed
+unfolding edit editRule
+editable-may S e p rs i v x = at-may (editAsks S v) (Takes S v) S e (λ c p t. rw (t .0, t .1)) p rs i x
 
 -- the new value meets the rule of the entry
-pub editable-ruled : (S : Shape) (e : ℕ) (rs : List Raw) (i : ℕ) (v : List ℕ) → Editable S e rs i v → RuledAt S (map content rs) i v
+editable-ruled : (S : Shape) (e : ℕ) (rs : List Raw) (i : ℕ) (v : List ℕ) → Editable S e rs i v → RuledAt S (map content rs) i v
 unfolding content
 editable-ruled S e [] i v x = absurd x
-editable-ruled S e (r ∷ rs) zero v x = x .2
+editable-ruled S e (r ∷ rs) zero v x = x .1 .1
 editable-ruled S e (r ∷ rs) (suc i) v x = editable-ruled S e rs i v x
+
+-- the new value is no longer than the entries laid out
+pub value-shorter : (S : Shape) (e : ℕ) (rs : List Raw) (i : ℕ) (v : List ℕ) → Editable S e rs i v → length v ≤ length (laid (edit i v .entries S rs))
+unfolding edit inPlace laid revalued
+value-shorter S e [] i v x = absurd x
+value-shorter S e (r ∷ rs) zero v x = simp length-append (omega arith)
+value-shorter S e (r ∷ rs) (suc i) v x = let h = value-shorter S e rs i v x in simp length-append (omega arith)
 
 -- an entry with another value, by its parts
 pub revalued-is : (S : Shape) {G : Grammar} (r : Raw) (v : List ℕ) (i : IsRaw G r) → revalued S r v ≡ i .front ++ (S .lens (i .code) (length v) ++ v)
@@ -119,12 +122,12 @@ module _ {S : Shape} {G : Grammar} (L : Laws S G) where
       (j, raw-content L (revaluedRaw S r v) j ∙ sym (ap (λ (c : Content). valued c v) old))
 
   -- edited entries are entries of the grammar, and say the old list with the one value replaced
-  pub edited-frames : (e : ℕ) (b : Bool) (rs : List Raw) (i : ℕ) (v : List ℕ) → Frames S G b rs → Editable S e rs i v → length v ≤ limit →
+  edited-frames : (e : ℕ) (b : Bool) (rs : List Raw) (i : ℕ) (v : List ℕ) → Frames S G b rs → Editable S e rs i v → length v ≤ limit →
       Frames S G b (editedRaws S rs i v) × (map content (editedRaws S rs i v) ≡ replaced (map content rs) i v)
-  unfolding editedRaws replaced
+  unfolding rawsInPlace replaced
   edited-frames e b [] i v fs x short = absurd x
   edited-frames e b (r ∷ rs) zero v fs x short =
-      let j = revalued-raw r v (fs .1) (x .1) short in
+      let j = revalued-raw r v (fs .1) (x .1 .0) short in
       ((fs .0, j .0, kept (fs .2)), ap (λ (c : Content). c ∷ map content rs) (j .1))
     where
       kept : Frames S G (S .last (r .frame .code)) rs → Frames S G (S .last (revaluedRaw S r v .frame .code)) rs
@@ -132,3 +135,18 @@ module _ {S : Shape} {G : Grammar} (L : Laws S G) where
   edited-frames e b (r ∷ rs) (suc i) v fs x short =
       let j = edited-frames e (S .last (r .frame .code)) rs i v (fs .2) x short in
       ((fs .0, fs .1, j .0), ap (λ (cs : List Content). content r ∷ cs) (j .1))
+
+  -- an edit that is allowed, of entries that fit an image, leaves entries with the one value replaced
+  pub edit-leaves : (o p : ℕ) (rs : List Raw) (i : ℕ) (v : List ℕ) → Frames S G false rs → edit i v .asks S o p rs ≡ allowed → length (laid (edit i v .entries S rs)) ≤ limit →
+      Leaves S G rs (editedRaws S rs i v) (edit i v .entries S rs) (λ a b. b ≡ replaced a i v)
+  edit-leaves o p rs i v fs q short =
+      let x = may-editable S o p rs i v q in
+      let h = value-shorter S o rs i v x in
+      let made = edited-frames o false rs i v fs x (omega arith) in
+      record {
+        bytes = edited-bytes S rs i v;
+        frames = made .0;
+        lawful = λ n l. rw (made .1) (lawful-replaced S n [] (map content rs) i v (editable-ruled S o rs i v x) l);
+        required = λ c. rw (edited-codes S rs i v) c;
+        makes = made .1;
+      }

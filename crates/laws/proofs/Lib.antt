@@ -2,7 +2,10 @@ pub mod Calls
 pub mod Choices
 pub mod Years
 pub mod Coded
+pub mod Changing
 pub mod Editing
+pub mod Adding
+pub mod Removing
 pub mod Fboss
 pub mod Format
 pub mod Formats

@@ -32,7 +32,7 @@ labelCodes [] = []
 labelCodes (b ∷ bs) = b .code ∷ labelCodes bs
 
 -- where two entries of one code always come twice, an entry is seen exactly where its code is among those before it
-seen-codes : (S : Shape) (a : Label) (seen : List Label) → ((b : Label) → S .twice a b ≡ true) → seenBefore S seen a ≡ oneOf (labelCodes seen) (a .code)
+pub seen-codes : (S : Shape) (a : Label) (seen : List Label) → ((b : Label) → S .twice a b ≡ true) → seenBefore S seen a ≡ oneOf (labelCodes seen) (a .code)
 unfolding seenBefore oneOf
 seen-codes S a [] t = refl
 seen-codes S a (b ∷ bs) t =

@@ -47,7 +47,7 @@ Writable S e shut [] = Unit {0}
 Writable S e shut (c ∷ cs) =
     (shut ≡ false) × (names S e (c .code) ≡ true) × (writerRule S c ≡ true) × (S .keyed ≡ false → c .key ≡ []) × Writable S e (S .last (c .code)) cs
 
-keyless : (t : Bool) (x : Field) (values : List ℕ) → t ≡ false → fieldKey t x values ≡ []
+pub keyless : (t : Bool) (x : Field) (values : List ℕ) → t ≡ false → fieldKey t x values ≡ []
 keyless true x values e = false-true (sym e)
 keyless false x values e = refl
 
@@ -156,7 +156,7 @@ writer-parts S c h =
     (b .0, b .1, a .1)
 
 module _ {S : Shape} {G : Grammar} (L : Laws S G) where
-  reader-rule : (c : Content) → writerRule S c ≡ true → readerRule S c ≡ true
+  pub reader-rule : (c : Content) → writerRule S c ≡ true → readerRule S c ≡ true
   unfolding readerRule
   reader-rule c h = let w = writer-parts S c h in rw (L .key-made (c .code) (c .key) (w .0), w .2)
 
@@ -184,7 +184,7 @@ module _ {S : Shape} {G : Grammar} (L : Laws S G) where
       (omega (arith, L .opening-long (c .code) (c .key) k), omega arith)
 
   -- a new entry is an entry of the grammar, and says what it was made of
-  fresh-raw : (e : ℕ) (c : Content) → names S e (c .code) ≡ true → writerRule S c ≡ true → (S .keyed ≡ false → c .key ≡ []) → length (entryBytes S c) ≤ limit →
+  pub fresh-raw : (e : ℕ) (c : Content) → names S e (c .code) ≡ true → writerRule S c ≡ true → (S .keyed ≡ false → c .key ≡ []) → length (entryBytes S c) ≤ limit →
       IsRaw G (fresh S c) × (content (fresh S c) ≡ c)
   unfolding fresh entryBytes
   fresh-raw e c n w k short =

@@ -1,4 +1,4 @@
--- What records say of an image, and what an edit makes of it.
+-- What records say of an image, and what an edit, an addition and a removal make of that.
 -- Assumes nothing.
 use Prim.Native.Nat.{ℕ, zero, suc, _+_, _≤_, _<_}
 use mathlib.Core.Path.{_≡_}
@@ -32,3 +32,9 @@ unfoldable pub replaced : List Content → ℕ → List ℕ → List Content
 replaced [] i v = []
 replaced (c ∷ cs) zero v = valued c v ∷ cs
 replaced (c ∷ cs) (suc i) v = c ∷ replaced cs i v
+
+-- entries without entry i
+unfoldable pub without : List Content → ℕ → List Content
+without [] i = []
+without (c ∷ cs) zero = cs
+without (c ∷ cs) (suc i) = c ∷ without cs i
