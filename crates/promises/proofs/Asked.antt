@@ -14,10 +14,13 @@ use Rattle.layout.specs.declared.Chosen.the-variants.{Known, Unknown}
 use Rattle.layout.specs.Editions.{knownEdition, chosen}
 use Rattle.layout.specs.Read.{limit, readImage}
 use Rattle.layout.specs.Calls.{checkImage, listEntries, entryAt, valueAt}
-use Rattle.layout.specs.Write.{writeImage}
-use Rattle.layout.specs.Edit.{editEntry}
+use Rattle.layout.specs.Write.{writeImage, toldMade}
+use Rattle.layout.specs.Change.{Change, changeImage}
+use Rattle.layout.specs.Edit.{edit}
+use Rattle.layout.specs.Add.{addition}
+use Rattle.layout.specs.Remove.{removal}
 use Rattle.laws.proofs.Choices.{refuted}
-use Rattle.promises.specs.Words.{FormatNumber, fboss, vpd, tiny, onie, KnownEdition, firstEdition, Refuses, tellsEdit}
+use Rattle.promises.specs.Words.{FormatNumber, fboss, vpd, tiny, onie, KnownEdition, firstEdition, Refuses}
 use Rattle.promises.specs.Asked.{AllRefuse, TooLong, Asked}
 use Rattle.promises.proofs.Telling.{edition-known, known-edition, first-edition, number-chosen, serves-chosen}
 
@@ -46,7 +49,7 @@ pub too-early : (f e : ℕ) (g : Format) → FormatNumber f g → KnownEdition e
 too-early f e g number k early = number-chosen e number ∙ rw (edition-known e k, first-edition g, lt-leb (firstEdition g) e early)
 
 all-refuse : (f e n : ℕ) → chosen f e ≡ Unknown n → AllRefuse f e n
-unfolding readImage checkImage listEntries entryAt valueAt writeImage editEntry
+unfolding readImage checkImage listEntries entryAt valueAt writeImage changeImage
 all-refuse f e n k =
     record {
       checked = λ image. rw k;
@@ -55,26 +58,30 @@ all-refuse f e n k =
       value = λ image i. rw k;
       written = λ fields values out. rw k;
       edited = λ image i v out. rw k;
+      added = λ image xs values out. rw k;
+      removed = λ image i out. rw k;
     }
 
 -- ---- lengths
 
 too-long : (f e : ℕ) (g : Format) → chosen f e ≡ Known g → TooLong f e
-unfolding readImage checkImage writeImage editEntry
+unfolding readImage checkImage writeImage changeImage
 too-long f e g k =
     record {
       checked = λ image lt. rw (k, lt-ltb limit (length image) lt);
       written = λ fields values out lt. rw (k, lt-ltb limit (length out) lt);
-      edited = edited;
+      edited = λ image i v out. changed (edit i v) image out;
+      added = λ image xs values out. changed (addition xs values) image out;
+      removed = λ image i out. changed (removal i) image out;
     }
   where
     either-long : (b : Bool) → (b || true) ≡ true
     either-long true = refl
     either-long false = refl
 
-    edited : (image : List ℕ) (i : ℕ) (v out : List ℕ) → (limit < length image) ⊎ (limit < length out) → Refuses (tellsEdit f e image i v out) 2 0
-    edited image i v out (inl lt) = rw (k, lt-ltb limit (length image) lt)
-    edited image i v out (inr lt) = rw (k, lt-ltb limit (length out) lt, either-long (ltb limit (length image)))
+    changed : (x : Change) (image out : List ℕ) → (limit < length image) ⊎ (limit < length out) → Refuses (toldMade (changeImage x f e image out .answer)) 2 0
+    changed x image out (inl lt) = rw (k, lt-ltb limit (length image) lt)
+    changed x image out (inr lt) = rw (k, lt-ltb limit (length out) lt, either-long (ltb limit (length image)))
 
 pub asked : Asked
 asked =

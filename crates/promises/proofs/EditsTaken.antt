@@ -19,27 +19,31 @@ use Rattle.layout.specs.Tiny.{tiny}
 use Rattle.layout.specs.Onie.{onie}
 use Rattle.layout.specs.Walk.{Raw, flat}
 use Rattle.layout.specs.Calls.{entryOf, entriesOf}
-use Rattle.layout.specs.Read.{limit, Read}
+use Rattle.layout.specs.Read.{limit}
 use Rattle.layout.specs.Write.{imageOf}
-use Rattle.layout.specs.Edit.{revalued, editedBytes, editRule, Allowed, allowed, denied, mayEdit, editAllowed, editRead, editEntry}
+use Rattle.layout.specs.Change.{bytesOf, laid, laidOut, Allowed, allowed, denied, inPlace, changeAllowed}
+use Rattle.layout.specs.Edit.{revalued, editRule, edit, editEntry}
 use Rattle.laws.specs.Grammar.{grammar}
 use Rattle.laws.proofs.Format.{KeyLast}
 use Rattle.laws.proofs.Frames.{IsRaw, raw-size, raw-at}
 use Rattle.laws.proofs.Walking.{Frames}
 use Rattle.laws.proofs.Records.{raw-placed}
+use Rattle.laws.proofs.Changing.{laid-flat}
 use Rattle.laws.proofs.Editing.{Editable, may-editable, editable-may}
 use Rattle.laws.proofs.Choices.{both}
 use Rattle.laws.proofs.Formats.{laws}
-use Rattle.laws.proofs.Calls.{Found, edit-read}
+use Rattle.laws.proofs.Calls.{Found}
 use Rattle.promises.specs.Words.{Counts, Item, here, there, tellsEdit}
-use Rattle.promises.specs.Written.{headerSize, Fits}
+use Rattle.promises.specs.Written.{Fits}
 use Rattle.promises.specs.EditRule.{lengthPlace, editedSize, Editable as EditableIn, Edits}
-use Rattle.promises.proofs.Telling.{chosen-serves, edited-some}
+use Rattle.promises.proofs.Telling.{chosen-serves, changed-some}
 use Rattle.promises.proofs.Naming.{named-names, names-named}
 use Rattle.promises.proofs.Listing.{list-of}
-use Rattle.promises.proofs.Written.{lens-size, image-size, fits-allowed, allowed-fits}
-use Rattle.promises.proofs.Output.{never-unwritten, put-fits, put-fitting}
-use Rattle.promises.proofs.Edits.{edit-short}
+use Rattle.promises.proofs.Written.{lens-size, image-size, allowed-fits}
+use Rattle.promises.proofs.Output.{never-unwritten, put-fits}
+use Rattle.promises.proofs.WriteCalls.{edited-low}
+use Rattle.promises.proofs.Changes.{change-done}
+use Rattle.promises.proofs.Accepted.{header-size, change-accepted, put-tells}
 
 -- ---- the entry in the list
 
@@ -47,7 +51,7 @@ use Rattle.promises.proofs.Edits.{edit-short}
 item-editable : (S : Shape) (e p : ℕ) (rs : List Raw) (i : ℕ) (v : List ℕ) (x : Entry) → Item (entriesOf S e p rs) i x →
     names S e (x .code) ≡ true → editRule S (x .code) v ≡ true → Editable S e rs i v
 unfolding entriesOf entryOf editRule
-item-editable S e p (r ∷ rs) zero v x here n q = let b = both (S .lengthRule (r .frame .code) (length v)) (S .valueRule (r .frame .code) v) q in (n, b .0, b .1)
+item-editable S e p (r ∷ rs) zero v x here n q = let b = both (S .lengthRule (r .frame .code) (length v)) (S .valueRule (r .frame .code) v) q in (n, b)
 item-editable S e p (r ∷ rs) (suc i) v x (there t) n q = item-editable S e (p + r .frame .size) rs i v x t n q
 
 -- an entry of the list that may be edited
@@ -60,7 +64,7 @@ record Ruled (S : Shape) (e p : ℕ) (rs : List Raw) (i : ℕ) (v : List ℕ) : 
 editable-item : (S : Shape) (e p : ℕ) (rs : List Raw) (i : ℕ) (v : List ℕ) → Editable S e rs i v → Ruled S e p rs i v
 unfolding entriesOf entryOf editRule
 editable-item S e p [] i v x = absurd x
-editable-item S e p (r ∷ rs) zero v x = record { entry = entryOf S e p r; there = here; named = x .0; ruled = rw (x .1, x .2) }
+editable-item S e p (r ∷ rs) zero v x = record { entry = entryOf S e p r; there = here; named = x .0; ruled = rw (x .1 .0, x .1 .1) }
 editable-item S e p (r ∷ rs) (suc i) v x =
     let n = editable-item S e (p + r .frame .size) rs i v x in
     record { entry = n .entry; there = there (n .there); named = n .named; ruled = n .ruled }
@@ -81,11 +85,11 @@ length-place Onie e p r i = rw (i .framed) (omega (arith, ap length (i .opens .i
 record Sizes (g : Format) (rs : List Raw) (i : ℕ) (x : Entry) (v : List ℕ) : Type 0 where
   pub common : ℕ
   pub was : length (flat rs) ≡ common + (x .value .place .0 + x .value .len - lengthPlace g x)
-  pub becomes : length (editedBytes (shape g) rs i v) ≡ common + (length (shape g .lens (x .code) (length v)) + length v)
+  pub becomes : length (laid (edit i v .entries (shape g) rs)) ≡ common + (length (shape g .lens (x .code) (length v)) + length v)
 
 item-sizes : (g : Format) (e p : ℕ) (b : Bool) (rs : List Raw) (i : ℕ) (v : List ℕ) (x : Entry) → Frames (shape g) (grammar g) b rs → Item (entriesOf (shape g) e p rs) i x →
     Sizes g rs i x v
-unfolding entriesOf entryOf editedBytes revalued
+unfolding entriesOf entryOf edit inPlace laid revalued
 item-sizes g e p b (r ∷ rs) zero v x fs here =
     let at = length-place g e p r (fs .1) in
     let size = raw-size (fs .1) in
@@ -95,23 +99,15 @@ item-sizes g e p b (r ∷ rs) zero v x fs here =
     record {
       common = r .frame .at + length (flat rs);
       was = rw at (omega (arith, length-append (r .bytes) (flat rs)));
-      becomes = simp length-append (omega arith);
+      becomes = simp length-append (omega (arith, ap length (laid-flat rs)));
     }
 item-sizes g e p b (r ∷ rs) (suc i) v x fs (there t) =
     let s = item-sizes g e (p + r .frame .size) (shape g .last (r .frame .code)) rs i v x (fs .2) t in
     record {
       common = length (r .bytes) + s .common;
       was = omega (arith, length-append (r .bytes) (flat rs), s .was);
-      becomes = omega (arith, length-append (r .bytes) (editedBytes (shape g) rs i v), s .becomes);
+      becomes = omega (arith, length-append (r .bytes) (laid (edit i v .entries (shape g) rs)), s .becomes);
     }
-
--- what stands before the entries is as long in every image of a format
-header-size : (g : Format) (n : ℕ) → length (shape g .header n) ≡ headerSize g
-unfolding fboss vpd tiny onie
-header-size Fboss n = refl
-header-size Vpd n = refl
-header-size Tiny n = refl
-header-size Onie n = refl
 
 -- ---- edits of an accepted image
 
@@ -126,28 +122,24 @@ module _ (f e : ℕ) (image : List ℕ) (n : ℕ) (x : Found f e image n) (i : �
   rs = x .raws
 
   -- how long the edited image is
-  edited-size : (y : Entry) → Item (entriesOf S e (x .start) rs) i y → length (imageOf S (editedBytes S rs i v)) ≡ editedSize g (x .start + length (flat rs)) y (length v)
+  edited-size : (y : Entry) → Item (entriesOf S e (x .start) rs) i y → length (laidOut S (edit i v .entries S rs)) ≡ editedSize g (x .start + length (flat rs)) y (length v)
   edited-size y t =
       let m = x .reading .made in
       let s = item-sizes g e (x .start) false rs i v y (m .frames) t in
-      omega (arith, s .was, s .becomes, m .starts, header-size g (length (flat rs)), image-size g (editedBytes S rs i v), lens-size g (y .code) (length v))
-
-  -- the edit, after the image is read
-  edit-accepted : length out ≤ limit → editEntry f e image i v out ≡ editAllowed (mayEdit S e (x .start) rs i v) S rs i v out
-  edit-accepted short = edit-read f e image i v out short ∙ ap (λ (r : Read). editRead r e i v out) (x .reading .read)
+      omega (arith, s .was, s .becomes, m .starts, header-size g (length (flat rs)), image-size g (laid (edit i v .entries S rs)), lens-size g (y .code) (length v))
 
   taken-is : tellsEdit f e image i v out .number ≡ 0 → EditableIn f e image n (list-of f e image n x) i v out
   unfolding list-of
   taken-is q =
-      let w = edited-some f e image i v out q in
-      let s = edit-short f e image i v out (w .0) (w .1) in
-      go (w .0) s (mayEdit S e (x .start) rs i v) refl (rw (edit-accepted s) at (w .1))
+      let w = changed-some (edit i v) f e image out (edited-low f e image i v out) q in
+      let s = change-done (edit i v) f e image out (w .0) (w .1) .short in
+      go (w .0) s (edit i v .asks S e (x .start) rs) refl (rw (change-accepted (edit i v) f e image n x out s) at (w .1))
     where
-      go : (m : ℕ) → length out ≤ limit → (a : Allowed) → mayEdit S e (x .start) rs i v ≡ a → editAllowed a S rs i v out .answer ≡ Wrote m →
+      go : (m : ℕ) → length out ≤ limit → (a : Allowed) → edit i v .asks S e (x .start) rs ≡ a → changeAllowed a S (edit i v .entries S rs) out .answer ≡ Wrote m →
           EditableIn f e image n (list-of f e image n x) i v out
       go m s allowed a q =
           let r = editable-item S e (x .start) rs i v (may-editable S e (x .start) rs i v a) in
-          let image′ : List ℕ = imageOf S (editedBytes S rs i v) in
+          let image′ : List ℕ = laidOut S (edit i v .entries S rs) in
           let within = put-fits S image′ out m q in
           let fits : Fits g (length image′) out = allowed-fits g (length image′) out (within .0) (within .1) in
           record {
@@ -164,11 +156,11 @@ module _ (f e : ℕ) (image : List ℕ) (n : ℕ) (x : Found f e image n) (i : �
       Counts (tellsEdit f e image i v out) (editedSize (list-of f e image n x .format) (list-of f e image n x .end) (y .entry) (length v))
   unfolding list-of
   is-taken y =
-      let image′ : List ℕ = imageOf S (editedBytes S rs i v) in
+      let image′ : List ℕ = laidOut S (edit i v .entries S rs) in
       let may = editable-may S e (x .start) rs i v (item-editable S e (x .start) rs i v (y .entry) (y .there) (named-names g e (y .entry .code) (y .named)) (y .ruled)) in
       let size = edited-size (y .entry) (y .there) in
       let fits : Fits g (length image′) out = rw size (y .fits) in
-      rw (← size, edit-accepted (y .short), may, put-fitting S image′ out (fits-allowed g (length image′) out (y .short) fits) (fits .room))
+      rw (← size, change-accepted (edit i v) f e image n x out (y .short), may) (put-tells g image′ out (y .short) fits)
 
 pub edits : (f e : ℕ) (image : List ℕ) (n : ℕ) → Found f e image n → Edits f e image n
 edits f e image n x = record { list = list-of f e image n x; taken-is = taken-is f e image n x; is-taken = is-taken f e image n x }

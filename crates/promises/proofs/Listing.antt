@@ -1,6 +1,6 @@
 -- Promise 2 holds.
 -- Assumes nothing.
-use Prim.Native.Nat.{ℕ, zero, suc, _+_, _-_}
+use Prim.Native.Nat.{ℕ, zero, suc, _+_, _-_, _<_}
 use mathlib.Core.Path.{_≡_, refl, ap, sym, _∙_}
 use mathlib.Core.List.{List, [], _∷_, _++_, append-assoc}
 use mathlib.Core.Bool.{Bool, false}
@@ -11,6 +11,7 @@ use lib.ListN.{length, getD, take, drop, length-append}
 use lib.Seq.{take-at, drop-at, getD-append-add}
 use Rattle.crc.specs.Crc.{check8Of}
 use Rattle.layout.specs.declared.Format.{Format}
+use Rattle.layout.specs.declared.Field.{Field}
 use Rattle.layout.specs.declared.Format.the-variants.{Fboss, Vpd, Tiny, Onie}
 use Rattle.layout.specs.Bytes.{part, partAt}
 use Rattle.layout.specs.Shape.{Shape}
@@ -20,21 +21,25 @@ use Rattle.layout.specs.Tiny.{tiny}
 use Rattle.layout.specs.Onie.{onie}
 use Rattle.layout.specs.Editions.{shape}
 use Rattle.layout.specs.Walk.{Raw, Content, flat}
+use Rattle.layout.specs.Add.{mayAdd, addition}
 use Rattle.layout.specs.Calls.{Told, keyPart, entryOf, entriesOf}
-use Rattle.laws.specs.Contents.{said, replaced}
+use Rattle.laws.specs.Contents.{said, replaced, without}
 use Rattle.laws.specs.Grammar.{grammar, Each, none, also}
 use Rattle.laws.proofs.Frames.{IsRaw, raw-size, part-between}
 use Rattle.laws.proofs.Lists.{length-map}
 use Rattle.laws.proofs.Walking.{Frames}
 use Rattle.laws.proofs.Records.{entry-said, records-tile, entries-count}
 use Rattle.laws.proofs.Formats.{laws}
+use Rattle.laws.proofs.Changing.{never-denied}
 use Rattle.laws.proofs.Calls.{Found, check-found}
-use Rattle.promises.specs.Listing.{Tile, EndByte, EndsAt, ListOf, Listing, ListingAfterEdits}
-use Rattle.promises.specs.Words.{Counts, Reads, tellsCheck}
+use Rattle.promises.specs.Listing.{Tile, EndByte, EndsAt, ListOf, Listing, ListedAfter, ListingAfterChanges}
+use Rattle.promises.specs.Words.{Counts, Reads, tellsCheck, adds}
+use Rattle.promises.specs.OlderChanges.{Kept, Added, last, beforePool}
 use Rattle.promises.proofs.Telling.{chosen-serves, counts-accepted}
 use Rattle.promises.proofs.Accepting.{lists}
 use Rattle.promises.proofs.PublishedRules.{raw-entry}
-use Rattle.promises.proofs.OlderEdits.{older-edits}
+use Rattle.promises.proofs.Changes.{add-done}
+use Rattle.promises.proofs.OlderChanges.{older-edits, older-adds, older-removes}
 
 -- ---- tiles
 
@@ -147,7 +152,27 @@ list-of f e image n x =
 pub listing : Listing
 listing f e image n q = list-of f e image n (check-found f e image n (counts-accepted f e image n q))
 
--- ---- after an edit
+-- ---- after a change
+
+-- an image that reads as so many entries is accepted with their number, and has the list of them
+pub reads-counts : (f e : ℕ) (image : List ℕ) (cs : List Content) → Reads f e image cs → Counts (tellsCheck f e image) (length cs)
+reads-counts f e image cs r =
+    let long : length (r .entries) ≡ length cs = sym (length-map (said image) (r .entries)) ∙ ap length (r .says) in rw (← long) (r .accepted)
+
+reads-listed : (f e : ℕ) (image : List ℕ) (cs : List Content) (n : ℕ) → length cs ≡ n → Reads f e image cs → ListOf f e image n
+reads-listed f e image cs n long r = listing f e image n (rw (← long) (reads-counts f e image cs r))
+
+-- a list that was counted has as many
+counted-once : (f e : ℕ) (image : List ℕ) (cs : List Content) (count : ℕ) → Reads f e image cs → Counts (tellsCheck f e image) count → length cs ≡ count
+counted-once f e image cs count r q = ap (λ (t : Told). t .count) (sym (reads-counts f e image cs r) ∙ q)
+
+-- what is kept is listed, with as many entries as the change makes
+kept-listed : {f n : ℕ} {image : List ℕ} {Makes : List Content → List Content → Type 0} {output : List ℕ} {m count : ℕ} (after : ℕ → ℕ) →
+    ((former latter : List Content) → Makes former latter → length former ≡ count → length latter ≡ after count) → (k : Kept f n image Makes output m) → length (k .former) ≡ count →
+    ListOf f n output (after count) × ListOf f n (take m output) (after count)
+kept-listed {f = f} {n = n} {output = output} {m = m} {count = count} after counts k long =
+    let many : length (k .latter) ≡ after count = counts (k .former) (k .latter) (k .makes) long in
+    (reads-listed f n output (k .latter) (after count) many (k .whole), reads-listed f n (take m output) (k .latter) (after count) many (k .front))
 
 replaced-count : (cs : List Content) (i : ℕ) (v : List ℕ) → length (replaced cs i v) ≡ length cs
 unfolding replaced
@@ -155,16 +180,31 @@ replaced-count [] i v = refl
 replaced-count (c ∷ cs) zero v = refl
 replaced-count (c ∷ cs) (suc i) v = ap suc (replaced-count cs i v)
 
--- an image that reads as so many entries is accepted with their number, and has the list of them
-reads-counts : (f e : ℕ) (image : List ℕ) (cs : List Content) → Reads f e image cs → Counts (tellsCheck f e image) (length cs)
-reads-counts f e image cs r =
-    let long : length (r .entries) ≡ length cs = sym (length-map (said image) (r .entries)) ∙ ap length (r .says) in rw (← long) (r .accepted)
+without-count : (cs : List Content) (i : ℕ) → i < length cs → length (without cs i) ≡ length cs - 1
+unfolding without
+without-count [] i lt = absurd (omega arith)
+without-count (c ∷ cs) zero lt = omega arith
+without-count (c ∷ cs) (suc i) lt = let h = without-count cs i (omega arith) in omega arith
 
-reads-listed : (f e : ℕ) (image : List ℕ) (cs : List Content) (n : ℕ) → length cs ≡ n → Reads f e image cs → ListOf f e image n
-reads-listed f e image cs n long r = listing f e image n (rw (← long) (reads-counts f e image cs r))
+added-count : {f : ℕ} {c : Content} {former latter : List Content} → Added f c former latter → length latter ≡ length former + 1
+added-count {c = c} {former = cs} (last each) = length-append cs (c ∷ [])
+added-count {c = c} (beforePool cs pool is one) = omega (arith, length-append cs (c ∷ pool ∷ []), length-append cs (pool ∷ []))
 
-pub listing-after-edits : ListingAfterEdits
-listing-after-edits f o n image count i v out m le q w =
-    let k = older-edits f o n image count i v out m le q w in
-    let long : length (replaced (k .former) i v) ≡ count = replaced-count (k .former) i v ∙ ap (λ (t : Told). t .count) (sym (reads-counts f n image (k .former) (k .before)) ∙ q) in
-    (reads-listed f n _ (replaced (k .former) i v) count long (k .whole), reads-listed f n _ (replaced (k .former) i v) count long (k .front))
+added : (fields : List Field) (values : List ℕ) → ListedAfter (adds fields values) (λ n. n + 1)
+unfolding addition mayAdd
+added [] values f o n image count out m le q w = never-denied (add-done f o image [] values out m w .asked)
+added (x ∷ more) values f o n image count out m le q w =
+    let k = older-adds x more values f o n image count out m le q w in
+    kept-listed (λ n. n + 1) (λ former latter is long. added-count is ∙ ap (λ (n : ℕ). n + 1) long) k (counted-once f n image (k .former) count (k .before) q)
+
+pub listing-after-changes : ListingAfterChanges
+listing-after-changes =
+    record {
+      edited = λ i v f o n image count out m le q w.
+          let k = older-edits i v f o n image count out m le q w in
+          kept-listed (λ n. n) (λ former latter is long. ap length is ∙ replaced-count former i v ∙ long) k (counted-once f n image (k .former) count (k .before) q);
+      added = added;
+      removed = λ i f o n image count out m le q w.
+          let k = older-removes i f o n image count out m le q w in
+          kept-listed (λ n. n - 1) (λ former latter is long. ap length (is .1) ∙ without-count former i (is .0) ∙ ap (λ (n : ℕ). n - 1) long) k (counted-once f n image (k .former) count (k .before) q);
+    }

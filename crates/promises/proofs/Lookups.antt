@@ -19,10 +19,13 @@ use Rattle.layout.specs.Editions.{shape}
 use Rattle.layout.specs.Read.{limit, Read, refused, readImage}
 use Rattle.layout.specs.Calls.{Told, toldRefusal, entriesOf, checkImage, listEntries, nth, entryAt, valueAt, stringAt, stepFrom}
 use Rattle.layout.specs.Write.{refuse}
-use Rattle.layout.specs.Edit.{editRead, editEntry}
+use Rattle.layout.specs.Change.{Change, changeRead, changeImage}
+use Rattle.layout.specs.Edit.{edit}
+use Rattle.layout.specs.Add.{addition}
+use Rattle.layout.specs.Remove.{removal}
 use Rattle.laws.specs.Contents.{said}
 use Rattle.laws.proofs.Records.{entries-count}
-use Rattle.laws.proofs.Calls.{Found as FoundImage, check-found, edit-read}
+use Rattle.laws.proofs.Calls.{Found as FoundImage, check-found, change-read}
 use Rattle.promises.specs.Words.{Item, here, there}
 use Rattle.promises.specs.Lookups.{toldBySteps, numberAfter, given, OneByOne, AsChecked, StepRule, Twin, Lookups}
 use Rattle.promises.specs.Numbers.{imageNumbers}
@@ -120,10 +123,9 @@ one-by-one f e image n x =
 
 -- ---- a refused image
 
--- an edit of it is refused alike, where its output is not too long
-edit-refused : (f e : ℕ) (image : List ℕ) (r : Refusal) → readImage f e image ≡ refused r → (i : ℕ) (v out : List ℕ) → length out ≤ limit →
-    editEntry f e image i v out ≡ refuse r out
-edit-refused f e image r q i v out le = edit-read f e image i v out le ∙ ap (λ (x : Read). editRead x e i v out) q
+-- a change of it is refused alike, where its output is not too long
+change-refused : (x : Change) (f e : ℕ) (image : List ℕ) (r : Refusal) → readImage f e image ≡ refused r → (out : List ℕ) → length out ≤ limit → changeImage x f e image out ≡ refuse r out
+change-refused x f e image r q out le = change-read x f e image out le ∙ ap (λ (y : Read). changeRead y x e out) q
 
 as-checked : (f e : ℕ) (image : List ℕ) (r : Refusal) → readImage f e image ≡ refused r → AsChecked f e image
 unfolding checkImage listEntries entryAt valueAt
@@ -132,7 +134,9 @@ as-checked f e image r q =
       listed = λ records. rw q;
       entry = λ n. rw q;
       value = λ n. rw q;
-      edited = λ i v out le. rw (q, edit-refused f e image r q i v out le);
+      edited = λ i v out le. rw (q, change-refused (edit i v) f e image r q out le);
+      added = λ xs values out le. rw (q, change-refused (addition xs values) f e image r q out le);
+      removed = λ i out le. rw (q, change-refused (removal i) f e image r q out le);
     }
 
 -- ---- any image

@@ -20,14 +20,16 @@ use Rattle.layout.specs.Read.{Read, accepted, refused, readImage}
 use Rattle.layout.specs.Calls.{entriesOf, checkImage, Listed, listedBy, listEntries, entryAt, valueAt, stringAt, stepFrom, toldChecked, toldLookup, toldLocated}
 use Rattle.layout.specs.Write.{writeImage, toldMade}
 use Rattle.layout.specs.Edit.{editEntry}
+use Rattle.layout.specs.Add.{addField}
+use Rattle.layout.specs.Remove.{removeEntry}
 use Rattle.laws.proofs.Choices.{either}
 use Rattle.promises.specs.Words.{tellsList}
-use Rattle.promises.specs.Numbers.{Gives, taken, refused as refusedBy, imageNumbers, writeNumbers, CallNumbers}
+use Rattle.promises.specs.Numbers.{Gives, taken, refused as refusedBy, imageNumbers, writeNumbers, changeNumbers, CallNumbers}
 use Rattle.promises.proofs.FormatNumbers.{Low}
 use Rattle.promises.proofs.Refusals.{farthest, refused-low, wider}
 use Rattle.promises.proofs.Entries.{CheckedIn, LookupIn, LocatedIn}
 use Rattle.promises.proofs.ReadCalls.{checked-in, entry-in, value-in, string-in}
-use Rattle.promises.proofs.WriteCalls.{MadeLow, editNumbers, edited-low, written-low}
+use Rattle.promises.proofs.WriteCalls.{MadeLow, edited-low, added-low, removed-low, written-low}
 
 -- ---- by what a call answers
 
@@ -69,5 +71,7 @@ call-numbers =
       string = λ f e image number. located-gives 15 (stringAt f e image number) (string-in f e image number);
       stepped = λ f e n image. lookup-gives (entryAt f e image n) (entry-in f e image n);
       written = λ f e fields values out. made-gives writeNumbers (length fields) (writeImage f e fields values out .answer) (written-low f e fields values out);
-      edited = λ f e image i v out. made-gives editNumbers farthest (editEntry f e image i v out .answer) (edited-low f e image i v out);
+      edited = λ f e image i v out. made-gives changeNumbers farthest (editEntry f e image i v out .answer) (edited-low f e image i v out);
+      added = λ f e image xs values out. made-gives changeNumbers farthest (addField f e image xs values out .answer) (added-low f e image xs values out);
+      removed = λ f e image i out. made-gives changeNumbers farthest (removeEntry f e image i out .answer) (removed-low f e image i out);
     }

@@ -1,4 +1,4 @@
--- What a write and an edit leave in the output, and that it is read as what was put there.
+-- What a write and a change leave in the output, and that it is read as what was put there.
 -- Assumes nothing.
 use Prim.Native.Nat.{ℕ, _+_, _-_, _≤_}
 use mathlib.Core.Path.{_≡_, refl, ap, sym, _∙_}
@@ -25,7 +25,7 @@ use Rattle.laws.proofs.Walking.{Frames}
 use Rattle.laws.proofs.Images.{imageFrom}
 use Rattle.laws.proofs.Writing.{image-made}
 use Rattle.laws.proofs.Formats.{laws}
-use Rattle.laws.proofs.Calls.{accepted-reading, made-reading}
+use Rattle.laws.proofs.Calls.{Reading, accepted-reading, made-reading}
 use Rattle.promises.specs.Words.{Reads}
 use Rattle.promises.proofs.Accepting.{reads}
 
@@ -71,22 +71,31 @@ put-took S image out m q =
     record { long = long; allowed = fits .0; fits = fits .1; padding = rw (is, long) }
 
 -- an output that took the image of lawful and complete entries is read as those, whole and up to the length given
-pub took-reads : (f e : ℕ) (g : Format) (rs : List Raw) (out : List ℕ) (m : ℕ) (memory : List ℕ) → chosen f e ≡ Known g → Frames (shape g) (grammar g) false rs →
-    Lawful (shape g) e [] (map content rs) → complete (shape g .required) (codesOf rs) ≡ true → length out ≤ limit → Took (shape g) (imageOf (shape g) (flat rs)) out m memory →
-    Reads f e memory (map content rs) × Reads f e (take m memory) (map content rs)
-took-reads f e g rs out m memory k fs lw cm short t =
-    let image : List ℕ = imageOf (shape g) (flat rs) in
-    let pad : List ℕ = replicate (length out - m) 0xFF in
-    let whole : memory ≡ imageFrom (shape g) (flat rs) (shape g .closing) pad = t .padding ∙ image-made (shape g) (flat rs) pad in
-    let front : take m memory ≡ imageFrom (shape g) (flat rs) (shape g .closing) []
-    = ap (take m) (t .padding) ∙ take-at image pad m (sym (t .long)) ∙ sym (append-nil image) ∙ image-made (shape g) (flat rs) [] in
-    let long : length memory ≡ length image + length pad = ap length (t .padding) ∙ length-append image pad in
-    let takes : grammar g .Takes (length (flat rs)) = laws g .takes-made (flat rs) (t .allowed) in
-    let read : (x : List ℕ) → length (imageFrom (shape g) (flat rs) (shape g .closing) x) ≤ limit → Reads f e (imageFrom (shape g) (flat rs) (shape g .closing) x) (map content rs)
-    = (λ x le.
-    let h = length (shape g .header (length (flat rs))) in
-    reads f e (imageFrom (shape g) (flat rs) (shape g .closing) x) g h rs
-    (accepted-reading f e (imageFrom (shape g) (flat rs) (shape g .closing) x) g h rs (made-reading f e g rs (shape g .closing) x k (laws g .closing-made) takes fs lw cm le))) in
-    let fitsWhole : length memory ≤ limit = omega (arith, length-replicate {A = ℕ} (length out - m) 0xFF, t .fits, t .long) in
-    let fitsFront : length (take m memory) ≤ limit = rw (t .padding, take-at image pad m (sym (t .long))) (omega (arith, t .fits)) in
-    (rw whole (read pad (rw whole at fitsWhole)), rw front (read [] (rw front at fitsFront)))
+module _ (f e : ℕ) (g : Format) (rs : List Raw) (out : List ℕ) (m : ℕ) (memory : List ℕ) where
+  pub took-readings : chosen f e ≡ Known g → Frames (shape g) (grammar g) false rs → Lawful (shape g) e [] (map content rs) → complete (shape g .required) (codesOf rs) ≡ true →
+      length out ≤ limit → Took (shape g) (imageOf (shape g) (flat rs)) out m memory →
+      let start = length (shape g .header (length (flat rs))) in
+      Reading f e memory g start rs × Reading f e (take m memory) g start rs
+  took-readings k fs lw cm short t =
+      let image : List ℕ = imageOf (shape g) (flat rs) in
+      let pad : List ℕ = replicate (length out - m) 0xFF in
+      let whole : memory ≡ imageFrom (shape g) (flat rs) (shape g .closing) pad = t .padding ∙ image-made (shape g) (flat rs) pad in
+      let front : take m memory ≡ imageFrom (shape g) (flat rs) (shape g .closing) []
+      = ap (take m) (t .padding) ∙ take-at image pad m (sym (t .long)) ∙ sym (append-nil image) ∙ image-made (shape g) (flat rs) [] in
+      let long : length memory ≡ length image + length pad = ap length (t .padding) ∙ length-append image pad in
+      let takes : grammar g .Takes (length (flat rs)) = laws g .takes-made (flat rs) (t .allowed) in
+      let read : (x : List ℕ) → length (imageFrom (shape g) (flat rs) (shape g .closing) x) ≤ limit →
+      Reading f e (imageFrom (shape g) (flat rs) (shape g .closing) x) g (length (shape g .header (length (flat rs)))) rs
+      = (λ x le.
+      accepted-reading f e (imageFrom (shape g) (flat rs) (shape g .closing) x) g (length (shape g .header (length (flat rs)))) rs
+      (made-reading f e g rs (shape g .closing) x k (laws g .closing-made) takes fs lw cm le)) in
+      let fitsWhole : length memory ≤ limit = omega (arith, length-replicate {A = ℕ} (length out - m) 0xFF, t .fits, t .long) in
+      let fitsFront : length (take m memory) ≤ limit = rw (t .padding, take-at image pad m (sym (t .long))) (omega (arith, t .fits)) in
+      (rw whole (read pad (rw whole at fitsWhole)), rw front (read [] (rw front at fitsFront)))
+
+  pub took-reads : chosen f e ≡ Known g → Frames (shape g) (grammar g) false rs → Lawful (shape g) e [] (map content rs) → complete (shape g .required) (codesOf rs) ≡ true →
+      length out ≤ limit → Took (shape g) (imageOf (shape g) (flat rs)) out m memory → Reads f e memory (map content rs) × Reads f e (take m memory) (map content rs)
+  took-reads k fs lw cm short t =
+      let r = took-readings k fs lw cm short t in
+      let start = length (shape g .header (length (flat rs))) in
+      (reads f e memory g start rs (r .0), reads f e (take m memory) g start rs (r .1))

@@ -35,7 +35,7 @@ use Rattle.promises.proofs.Output.{entries-shorter, Took, put-took, nev
 
 -- ---- what a field says
 
-field-said : (f : ℕ) (g : Format) (values : List ℕ) (x : Field) → Stands f g → fieldContent (shape g) values x ≡ fieldSays f values x
+pub field-said : (f : ℕ) (g : Format) (values : List ℕ) (x : Field) → Stands f g → fieldContent (shape g) values x ≡ fieldSays f values x
 unfolding fboss vpd tiny onie
 field-said f Fboss values x (one e) = rw (ne-eqb f 2 (λ q. let z = eqb-true f 1 e in omega arith))
 field-said f Vpd values x (two e₁ e₂) = rw e₂

@@ -26,16 +26,16 @@ use Rattle.layout.specs.Editions.{shape, knownEdition, withEdition, chosen}
 use Rattle.layout.specs.Read.{Read, accepted, refused, readImage}
 use Rattle.layout.specs.Calls.{Told, toldChecked, checkedBy, checkImage}
 use Rattle.layout.specs.Write.{writeImage, toldMade}
-use Rattle.layout.specs.Edit.{editEntry}
+use Rattle.layout.specs.Change.{Change, changeImage}
 use Rattle.laws.proofs.Choices.{both}
 use Rattle.laws.proofs.Calls.{Stands, one, two, three, four, chosen-stands}
-use Rattle.promises.specs.Words.{FormatNumber, fboss, vpd, tiny, onie, KnownEdition, firstEdition, Serves, Counts, IsRefused, tellsCheck, tellsWrite, tellsEdit}
-use Rattle.promises.specs.Numbers.{imageNumbers, writeNumbers}
+use Rattle.promises.specs.Words.{FormatNumber, fboss, vpd, tiny, onie, KnownEdition, firstEdition, Serves, Counts, IsRefused, tellsCheck, tellsWrite}
+use Rattle.promises.specs.Numbers.{imageNumbers, writeNumbers, changeNumbers}
 use Rattle.promises.proofs.FormatNumbers.{tabled}
 use Rattle.promises.proofs.Refusals.{farthest}
 use Rattle.promises.proofs.Entries.{CheckedIn}
 use Rattle.promises.proofs.ReadCalls.{checked-in}
-use Rattle.promises.proofs.WriteCalls.{MadeLow, editNumbers, edited-low, written-low}
+use Rattle.promises.proofs.WriteCalls.{MadeLow, written-low}
 
 -- ---- formats and editions
 
@@ -104,10 +104,10 @@ check-refused f e image h = go (readImage f e image) refl h
     go (accepted g start rs) q h = absurd (h refl)
     go (refused r) q h = (r, q)
 
--- ---- write and edit
+-- ---- calls that make an image
 
 module _ (numbers : List ℕ) (most : ℕ) (table : all (between 1 20) numbers ≡ true) where
-  made-some : (x : Made) → MadeLow numbers most x → toldMade x .number ≡ 0 → (n : ℕ) × (x ≡ Wrote n)
+  pub made-some : (x : Made) → MadeLow numbers most x → toldMade x .number ≡ 0 → (n : ℕ) × (x ≡ Wrote n)
   made-some (Wrote n) l z = (n, refl)
   made-some (Unwritten r) l z = absurd (omega (arith, tabled numbers (r .number) table (l .number)))
 
@@ -126,11 +126,12 @@ module _ (f e : ℕ) (fields : List Field) (values out : List ℕ) where
   unfolding all
   counts-written n q = made-counts writeNumbers (length fields) refl (writeImage f e fields values out .answer) n (written-low f e fields values out) q
 
-module _ (f e : ℕ) (image : List ℕ) (i : ℕ) (v out : List ℕ) where
-  pub edited-some : tellsEdit f e image i v out .number ≡ 0 → (m : ℕ) × (editEntry f e image i v out .answer ≡ Wrote m)
+-- a change, whose refusals are of the table
+module _ (x : Change) (f e : ℕ) (image out : List ℕ) (low : MadeLow changeNumbers farthest (changeImage x f e image out .answer)) where
+  pub changed-some : toldMade (changeImage x f e image out .answer) .number ≡ 0 → (m : ℕ) × (changeImage x f e image out .answer ≡ Wrote m)
   unfolding all
-  edited-some z = made-some editNumbers farthest refl (editEntry f e image i v out .answer) (edited-low f e image i v out) z
+  changed-some z = made-some changeNumbers farthest refl (changeImage x f e image out .answer) low z
 
-  pub counts-edited : (m : ℕ) → Counts (tellsEdit f e image i v out) m → editEntry f e image i v out .answer ≡ Wrote m
+  pub counts-changed : (m : ℕ) → Counts (toldMade (changeImage x f e image out .answer)) m → changeImage x f e image out .answer ≡ Wrote m
   unfolding all
-  counts-edited m q = made-counts editNumbers farthest refl (editEntry f e image i v out .answer) m (edited-low f e image i v out) q
+  counts-changed m q = made-counts changeNumbers farthest refl (changeImage x f e image out .answer) m low q

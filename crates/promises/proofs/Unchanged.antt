@@ -12,11 +12,14 @@ use Rattle.layout.specs.declared.Chosen.{Chosen}
 use Rattle.layout.specs.declared.Chosen.the-variants.{Known, Unknown}
 use Rattle.layout.specs.Shape.{Shape, Judged, fine, faulty}
 use Rattle.layout.specs.Editions.{shape, chosen}
-use Rattle.layout.specs.Walk.{Raw, Content}
+use Rattle.layout.specs.Walk.{Content}
 use Rattle.layout.specs.Read.{limit, complete, Read, accepted, refused, readAs, readImage}
 use Rattle.layout.specs.Calls.{entriesOf, toldChecked, Listed, listedBy, listEntries}
 use Rattle.layout.specs.Write.{judgeFields, contentsOf, contentCodes, entriesBytes, imageOf, Outcome, put, writeJudged, writeAs, writeChosen, writeImage, toldMade}
-use Rattle.layout.specs.Edit.{editedBytes, Allowed, allowed, denied, mayEdit, editAllowed, editRead, editChosen, editEntry}
+use Rattle.layout.specs.Change.{laidOut, Allowed, allowed, denied, Change, changeAllowed, changeRead, changeChosen, changeImage}
+use Rattle.layout.specs.Edit.{edit}
+use Rattle.layout.specs.Add.{addition}
+use Rattle.layout.specs.Remove.{removal}
 use Rattle.laws.proofs.Choices.{either}
 use Rattle.promises.specs.Words.{IsRefused, tellsList}
 use Rattle.promises.specs.Unchanged.{Unchanged}
@@ -44,19 +47,19 @@ write-leaves f e fields values out = choose (chosen f e)
         (λ _. judged (shape g) (contentsOf (shape g) values fields) (judgeFields (shape g) e values false [] fields 0))
     choose (Unknown n) = λ h. refl
 
-edit-leaves : (f e : ℕ) (image : List ℕ) (i : ℕ) (v out : List ℕ) → Leaves out (editEntry f e image i v out)
-unfolding editEntry
-edit-leaves f e image i v out = choose (chosen f e)
+change-leaves : (x : Change) (f e : ℕ) (image out : List ℕ) → Leaves out (changeImage x f e image out)
+unfolding changeImage
+change-leaves x f e image out = choose (chosen f e)
   where
-    allows : (S : Shape) (rs : List Raw) (a : Allowed) → Leaves out (editAllowed a S rs i v out)
-    allows S rs allowed = put-leaves S (imageOf S (editedBytes S rs i v)) out
-    allows S rs (denied r) = λ h. refl
+    allows : (S : Shape) (entries : List (List ℕ)) (a : Allowed) → Leaves out (changeAllowed a S entries out)
+    allows S entries allowed = put-leaves S (laidOut S entries) out
+    allows S entries (denied r) = λ h. refl
 
-    reads : (x : Read) → Leaves out (editRead x e i v out)
-    reads (accepted g start rs) = allows (shape g) rs (mayEdit (shape g) e start rs i v)
+    reads : (y : Read) → Leaves out (changeRead y x e out)
+    reads (accepted g start rs) = allows (shape g) (x .entries (shape g) rs) (x .asks (shape g) e start rs)
     reads (refused r) = λ h. refl
 
-    choose : (x : Chosen) → Leaves out (editChosen x e image i v out)
+    choose : (y : Chosen) → Leaves out (changeChosen y x e image out)
     choose (Known g) = either (Leaves out) (ltb limit (length image) || ltb limit (length out)) (λ _ h. refl) (λ _. reads (readAs g e image))
     choose (Unknown n) = λ h. refl
 
@@ -72,4 +75,11 @@ list-leaves f e image records = go (readImage f e image)
     go (refused r) = λ h. refl
 
 pub unchanged : Unchanged
-unchanged = record { written = write-leaves; edited = edit-leaves; listed = list-leaves }
+unchanged =
+    record {
+      written = write-leaves;
+      edited = λ f e image i v out. change-leaves (edit i v) f e image out;
+      added = λ f e image xs values out. change-leaves (addition xs values) f e image out;
+      removed = λ f e image i out. change-leaves (removal i) f e image out;
+      listed = list-leaves;
+    }

@@ -58,12 +58,12 @@ again-twice Vpd c d a =
 again-twice Tiny c d a = refl
 again-twice Onie c d a = rw (ne-eqb (c .code) 0xFD (a .2 refl))
 
-same-again : (g : Format) (c d : Content) → same (shape g) (labelOf c) (labelOf d) ≡ true → Again g c d
+pub same-again : (g : Format) (c d : Content) → same (shape g) (labelOf c) (labelOf d) ≡ true → Again g c d
 same-again g c d h =
     let b = both (eqb (c .code) (d .code)) (shape g .twice (labelOf c) (labelOf d)) h in
     (eqb-true (c .code) (d .code) (b .0), twice-key g c d (b .1), twice-vendor g c d (b .1))
 
-again-same : (g : Format) (c d : Content) → Again g c d → same (shape g) (labelOf c) (labelOf d) ≡ true
+pub again-same : (g : Format) (c d : Content) → Again g c d → same (shape g) (labelOf c) (labelOf d) ≡ true
 again-same g c d a = rw (eq-eqb (c .code) (d .code) (a .0)) (again-twice g c d a)
 
 single-once : (g : Format) (cs : List Content) → Single (shape g) cs → Once g cs
@@ -80,14 +80,14 @@ once-single g (c ∷ cs) o = (each-map (λ d n. go d (same (shape g) (labelOf d)
 
 -- ---- after a Tiny pool
 
-last-pool : (g : Format) (code : ℕ) → shape g .last code ≡ true → (g ≡ Tiny) × (code ≡ 0x01)
+pub last-pool : (g : Format) (code : ℕ) → shape g .last code ≡ true → (g ≡ Tiny) × (code ≡ 0x01)
 unfolding fboss vpd tiny onie
 last-pool Fboss code h = false-true h
 last-pool Vpd code h = false-true h
 last-pool Tiny code h = (refl, eqb-true code 0x01 h)
 last-pool Onie code h = false-true h
 
-pool-last : (g : Format) (code : ℕ) → g ≡ Tiny → code ≡ 0x01 → shape g .last code ≡ true
+pub pool-last : (g : Format) (code : ℕ) → g ≡ Tiny → code ≡ 0x01 → shape g .last code ≡ true
 unfolding tiny
 pool-last g code is one = rw (is, one)
 
@@ -120,10 +120,10 @@ unfolding vpd
 key-inside g values x h is =
     leb-true (x .key .place .0 + x .key .len) (length values) (both (inside (x .key) values) (inside (x .value) values) (rw is at h) .0)
 
-parts-inside : (g : Format) (values : List ℕ) (x : Field) → partsInside (shape g .keyed) x values ≡ true → Inside g values x
+pub parts-inside : (g : Format) (values : List ℕ) (x : Field) → partsInside (shape g .keyed) x values ≡ true → Inside g values x
 parts-inside g values x h = (value-inside (shape g .keyed) values x h, key-inside g values x h)
 
-inside-parts : (g : Format) (values : List ℕ) (x : Field) → Inside g values x → partsInside (shape g .keyed) x values ≡ true
+pub inside-parts : (g : Format) (values : List ℕ) (x : Field) → Inside g values x → partsInside (shape g .keyed) x values ≡ true
 unfolding fboss vpd tiny onie
 inside-parts Fboss values x i = le-leb (x .value .place .0 + x .value .len) (length values) (i .0)
 inside-parts Vpd values x i =
@@ -133,7 +133,7 @@ inside-parts Onie values x i = le-leb (x .value .place .0 + x .value .len) (leng
 
 -- ---- the codes that an image must have
 
-required-codes : (g : Format) → shape g .required ≡ required g
+pub required-codes : (g : Format) → shape g .required ≡ required g
 unfolding fboss vpd tiny onie
 required-codes Fboss = refl
 required-codes Vpd = refl

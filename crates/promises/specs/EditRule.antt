@@ -4,59 +4,41 @@
 use Prim.Native.Nat.{ℕ, _+_, _-_, _≤_}
 use mathlib.Core.Path.{_≡_}
 use mathlib.Core.List.{List, _++_}
-use mathlib.Core.Bool.{true, false}
-use lib.ListN.{length, replicate}
+use mathlib.Core.Bool.{true}
+use lib.ListN.{length}
 use Rattle.layout.specs.declared.Format.{Format}
 use Rattle.layout.specs.declared.Format.the-variants.{Fboss, Vpd, Tiny, Onie}
 use Rattle.layout.specs.declared.Entry.{Entry}
 use Rattle.layout.specs.Editions.{shape}
 use Rattle.layout.specs.Walk.{Content}
 use Rattle.layout.specs.Edit.{editRule, editEntry}
-use Rattle.laws.specs.Grammar.{grammar, Entries}
-use Rattle.promises.specs.Words.{Serves, Counts, Item, tellsCheck, tellsEdit}
+use Rattle.laws.specs.Grammar.{grammar}
+use Rattle.promises.specs.Words.{Counts, Item, tellsCheck, tellsEdit}
 use Rattle.promises.specs.Names.{Named}
 use Rattle.promises.specs.Listing.{ListOf}
-use Rattle.promises.specs.Written.{Written, ShortLength, lengthSize, endSize, Fits}
+use Rattle.promises.specs.Relaid.{Relaid}
+use Rattle.promises.specs.Written.{ShortLength, lengthSize, endSize, Fits}
 
 -- ---- what an edit puts out
 
--- an image with the value of entry i edited to v: i entries before it and all after it are the same bytes in both
+-- an image with the value of entry i edited to v
 pub record Edited (f e : ℕ) (image : List ℕ) (i : ℕ) (v out : List ℕ) (m : ℕ) : Type 0 where
   pub format : Format
-  pub serves : Serves f e format
-  -- the i entries before, and those after
-  pub before : List ℕ
+  -- what the entries before say, which are i, and those after
   pub contents : List Content
   pub counted : length contents ≡ i
-  pub made : Entries (grammar format) (shape format) false before contents
-  pub code : ℕ
-  pub after : List ℕ
   pub later : List Content
-  pub madeAfter : Entries (grammar format) (shape format) (shape format .last code) after later
   -- the entry: what opens it, and the bytes of its length and of its value, old and new
+  pub code : ℕ
   pub key : List ℕ
   pub front : List ℕ
-  pub opens : grammar format .Opening front code key
   pub oldLens : List ℕ
   pub oldValue : List ℕ
-  pub saysOld : grammar format .Says code oldLens (length oldValue)
   pub newLens : List ℕ
+  pub opens : grammar format .Opening front code key
+  pub saysOld : grammar format .Says code oldLens (length oldValue)
   pub saysNew : ShortLength format code newLens (length v)
-  -- all entries, old and new
-  pub entries : List ℕ
-  pub entries′ : List ℕ
-  pub was : entries ≡ before ++ ((front ++ (oldLens ++ oldValue)) ++ after)
-  pub becomes : entries′ ≡ before ++ ((front ++ (newLens ++ v)) ++ after)
-  -- the image was a header, these entries, a closing and the right check; what followed is dropped
-  pub closing : List ℕ
-  pub rest : List ℕ
-  pub closed : grammar format .Closing closing
-  pub wasImage : image ≡ shape format .header (length entries) ++ (entries ++ (closing ++ (shape format .check (shape format .header (length entries) ++ entries) ++ rest)))
-  -- the output ends as the writer's does, and FFh is in every byte after it
-  pub image′ : List ℕ
-  pub written : Written format entries′ image′
-  pub long : m ≡ length image′
-  pub filled : editEntry f e image i v out .memory ≡ image′ ++ replicate (length out - m) 0xFF
+  pub relaid : Relaid f e image format contents later code (front ++ (oldLens ++ oldValue)) (front ++ (newLens ++ v)) (editEntry f e image i v out .memory) out m
 
 -- ---- which edits are taken
 

@@ -14,7 +14,10 @@ pub mod RoundTrip
 pub mod Written
 pub mod Writing
 pub mod OlderReads
-pub mod OlderEdits
+pub mod OlderChanges
+pub mod Relaid
 pub mod EditRule
+pub mod AddRule
+pub mod RemoveRule
 pub mod Payload
 pub mod Vendor

@@ -1,7 +1,7 @@
 -- Promise 2, the list: one record for each entry, in image order; the records tile the image from the header to the end of the entries, where the closing stands. First byte
 -- plus length of the whole frame of a record is the first byte of the next, and of the last one where the end begins.
 -- Assumes nothing.
-use Prim.Native.Nat.{ℕ, _-_, _≤_, _<_}
+use Prim.Native.Nat.{ℕ, _+_, _-_, _≤_, _<_}
 use mathlib.Core.Path.{_≡_}
 use mathlib.Core.List.{List, _++_}
 use mathlib.Core.Logic.{_⊎_}
@@ -9,13 +9,13 @@ use lib.ListN.{length, getD, take, drop}
 use Rattle.crc.specs.Crc.{check8Of}
 use Rattle.layout.specs.declared.Format.{Format}
 use Rattle.layout.specs.declared.Entry.{Entry}
+use Rattle.layout.specs.declared.Field.{Field}
 use Rattle.layout.specs.declared.Format.the-variants.{Fboss, Vpd, Tiny, Onie}
 use Rattle.layout.specs.Bytes.{part, partAt}
-use Rattle.layout.specs.Edit.{editEntry}
 use Rattle.layout.specs.Editions.{shape}
 use Rattle.laws.specs.Contents.{said, Tiles}
 use Rattle.laws.specs.Grammar.{grammar, EntryOf, Each}
-use Rattle.promises.specs.Words.{Serves, Counts, Lists, tellsCheck, tellsEdit}
+use Rattle.promises.specs.Words.{Serves, Counts, Lists, tellsCheck, Changes, tellsChange, edits, adds, removes}
 
 -- a record's bytes, from its place on and as many as its frame has, are an entry of the grammar that says what the record says; without keys the key has length 0 and stands at the value's place
 pub record Tile (format : Format) (image : List ℕ) (x : Entry) : Type 0 where
@@ -56,8 +56,14 @@ pub record ListOf (f e : ℕ) (image : List ℕ) (n : ℕ) : Type 0 where
 abbrev pub Listing : Type 0
 Listing = (f e : ℕ) (image : List ℕ) (n : ℕ) → Counts (tellsCheck f e image) n → ListOf f e image n
 
--- and after every edit, by the same edition or an older one: of the whole output, and of its part up to the length given
-abbrev pub ListingAfterEdits : Type 0
-ListingAfterEdits =
-    (f o n : ℕ) (image : List ℕ) (count i : ℕ) (v out : List ℕ) (m : ℕ) → o ≤ n → Counts (tellsCheck f n image) count → Counts (tellsEdit f o image i v out) m →
-    let output = editEntry f o image i v out .memory in ListOf f n output count × ListOf f n (take m output) count
+-- and after every change, by the same edition or an older one: of the whole output, and of its part up to the length given, with so many entries where the image had `count`
+abbrev pub ListedAfter : Changes → (ℕ → ℕ) → Type 0
+ListedAfter call after =
+    (f o n : ℕ) (image : List ℕ) (count : ℕ) (out : List ℕ) (m : ℕ) → o ≤ n → Counts (tellsCheck f n image) count → Counts (tellsChange call f o image out) m →
+    let output = call f o image out .memory in ListOf f n output (after count) × ListOf f n (take m output) (after count)
+
+-- an edit leaves as many entries, an addition one more, a removal one less
+pub record ListingAfterChanges : Type 0 where
+  pub edited : (i : ℕ) (v : List ℕ) → ListedAfter (edits i v) (λ n. n)
+  pub added : (fields : List Field) (values : List ℕ) → ListedAfter (adds fields values) (λ n. n + 1)
+  pub removed : (i : ℕ) → ListedAfter (removes i) (λ n. n - 1)

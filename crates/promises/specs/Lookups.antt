@@ -5,12 +5,13 @@ use mathlib.Core.Path.{_≡_}
 use mathlib.Core.List.{List, [], _∷_, _++_, map}
 use lib.ListN.{length, take, replicate}
 use Rattle.layout.specs.declared.Entry.{Entry}
+use Rattle.layout.specs.declared.Field.{Field}
 use Rattle.layout.specs.declared.Located.{Located}
 use Rattle.layout.specs.Bytes.{partAt, refusal}
 use Rattle.layout.specs.Read.{limit}
 use Rattle.layout.specs.Calls.{Told, told, toldRefusal, toldLookup, toldLocated, bytesAt, verdict, valueAt, stringAt, stepFrom}
 use Rattle.laws.specs.Contents.{said}
-use Rattle.promises.specs.Words.{Counts, Refuses, IsRefused, Item, Lists, tellsCheck, tellsList, tellsEntry, tellsValue, tellsEdit}
+use Rattle.promises.specs.Words.{Counts, Refuses, IsRefused, Item, Lists, tellsCheck, tellsList, tellsEntry, tellsValue, tellsEdit, tellsAdd, tellsRemove}
 
 -- ---- a walk, step by step over one image
 
@@ -51,12 +52,14 @@ pub record OneByOne (f e : ℕ) (image : List ℕ) (n : ℕ) : Type 0 where
 
 -- ---- any image
 
--- every call on an image that the check refuses is refused alike; an edit, where its output is not too long
+-- every call on an image that the check refuses is refused alike; an edit, an addition and a removal, where the output is not too long
 pub record AsChecked (f e : ℕ) (image : List ℕ) : Type 0 where
   pub listed : (records : List Entry) → tellsList f e image records ≡ tellsCheck f e image
   pub entry : (n : ℕ) → tellsEntry f e image n ≡ tellsCheck f e image
   pub value : (n : ℕ) → tellsValue f e image n ≡ tellsCheck f e image
   pub edited : (i : ℕ) (v out : List ℕ) → length out ≤ limit → tellsEdit f e image i v out ≡ tellsCheck f e image
+  pub added : (fields : List Field) (values out : List ℕ) → length out ≤ limit → tellsAdd f e image fields values out ≡ tellsCheck f e image
+  pub removed : (i : ℕ) (out : List ℕ) → length out ≤ limit → tellsRemove f e image i out ≡ tellsCheck f e image
 
 -- a step answers as entry n on the image lent to it, and moves the walk on by one exactly where it is not refused
 pub record StepRule (f e n : ℕ) (image : List ℕ) : Type 0 where

@@ -9,7 +9,7 @@ use Rattle.layout.specs.declared.Entry.{Entry}
 use Rattle.layout.specs.declared.Field.{Field}
 use Rattle.layout.specs.Bytes.{oneOf, partAt}
 use Rattle.layout.specs.Calls.{Told, toldLookup, stepFrom}
-use Rattle.promises.specs.Words.{tellsCheck, tellsList, tellsEntry, tellsValue, tellsString, tellsWrite, tellsEdit}
+use Rattle.promises.specs.Words.{tellsCheck, tellsList, tellsEntry, tellsValue, tellsString, tellsWrite, tellsEdit, tellsAdd, tellsRemove}
 
 -- a call that can be refused by these numbers alone: where it is not, number and place are 0; where it is, the count is 0, the part is empty and no entry is given
 pub data Gives (numbers : List ℕ) : Told → Type 0 where
@@ -23,6 +23,10 @@ imageNumbers = 16 ∷ 1 ∷ 2 ∷ 3 ∷ 4 ∷ 5 ∷ 6 ∷ 9 ∷ 10 ∷ 7 ∷ 8 �
 abbrev pub writeNumbers : List ℕ
 writeNumbers = 16 ∷ 1 ∷ 2 ∷ 14 ∷ 13 ∷ 9 ∷ 7 ∷ 8 ∷ 11 ∷ 12 ∷ []
 
+-- of a change of an image: an edit, an addition, a removal
+abbrev pub changeNumbers : List ℕ
+changeNumbers = 13 ∷ 14 ∷ 12 ∷ imageNumbers
+
 -- what each call can give
 pub record CallNumbers : Type 0 where
   pub checked : (f e : ℕ) (image : List ℕ) → Gives imageNumbers (tellsCheck f e image)
@@ -32,4 +36,6 @@ pub record CallNumbers : Type 0 where
   pub string : (f e : ℕ) (image : List ℕ) (number : ℕ) → Gives (15 ∷ imageNumbers) (tellsString f e image number)
   pub stepped : (f e n : ℕ) (image : List ℕ) → Gives (13 ∷ imageNumbers) (toldLookup (stepFrom f e n image .answer))
   pub written : (f e : ℕ) (fields : List Field) (values out : List ℕ) → Gives writeNumbers (tellsWrite f e fields values out)
-  pub edited : (f e : ℕ) (image : List ℕ) (i : ℕ) (v out : List ℕ) → Gives (13 ∷ 14 ∷ 12 ∷ imageNumbers) (tellsEdit f e image i v out)
+  pub edited : (f e : ℕ) (image : List ℕ) (i : ℕ) (v out : List ℕ) → Gives changeNumbers (tellsEdit f e image i v out)
+  pub added : (f e : ℕ) (image : List ℕ) (fields : List Field) (values out : List ℕ) → Gives changeNumbers (tellsAdd f e image fields values out)
+  pub removed : (f e : ℕ) (image : List ℕ) (i : ℕ) (out : List ℕ) → Gives changeNumbers (tellsRemove f e image i out)

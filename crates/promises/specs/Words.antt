@@ -11,8 +11,10 @@ use Rattle.layout.specs.declared.Field.{Field}
 use Rattle.layout.specs.Bytes.{partAt, refusal}
 use Rattle.layout.specs.Walk.{Content}
 use Rattle.layout.specs.Calls.{Told, told, toldRefusal, toldChecked, toldLookup, toldLocated, checkImage, listEntries, entryAt, valueAt, stringAt}
-use Rattle.layout.specs.Write.{writeImage, toldMade}
+use Rattle.layout.specs.Write.{Outcome, writeImage, toldMade}
 use Rattle.layout.specs.Edit.{editEntry}
+use Rattle.layout.specs.Add.{addField}
+use Rattle.layout.specs.Remove.{removeEntry}
 use Rattle.laws.specs.Contents.{said}
 
 -- ---- formats and editions
@@ -63,6 +65,28 @@ tellsWrite f e fields values out = toldMade (writeImage f e fields values out .a
 
 abbrev pub tellsEdit : ℕ → ℕ → List ℕ → ℕ → List ℕ → List ℕ → Told
 tellsEdit f e image i v out = toldMade (editEntry f e image i v out .answer)
+
+abbrev pub tellsAdd : ℕ → ℕ → List ℕ → List Field → List ℕ → List ℕ → Told
+tellsAdd f e image fields values out = toldMade (addField f e image fields values out .answer)
+
+abbrev pub tellsRemove : ℕ → ℕ → List ℕ → ℕ → List ℕ → Told
+tellsRemove f e image i out = toldMade (removeEntry f e image i out .answer)
+
+-- a call that makes another image of an image: an edit, an addition or a removal, by format, edition, image and output
+abbrev pub Changes : Type 0
+Changes = ℕ → ℕ → List ℕ → List ℕ → Outcome
+
+abbrev pub tellsChange : Changes → ℕ → ℕ → List ℕ → List ℕ → Told
+tellsChange call f e image out = toldMade (call f e image out .answer)
+
+abbrev pub edits : ℕ → List ℕ → Changes
+edits i v f e image out = editEntry f e image i v out
+
+abbrev pub adds : List Field → List ℕ → Changes
+adds fields values f e image out = addField f e image fields values out
+
+abbrev pub removes : ℕ → Changes
+removes i f e image out = removeEntry f e image i out
 
 -- nothing is refused, and what is told is a count alone: of entries, or of the bytes of an image that was made
 abbrev pub Counts : Told → ℕ → Type 0

@@ -1,0 +1,87 @@
+-- A removal (02, "Add and remove fields"): what is put out, what it tells of an accepted image, by the table and in its order, and that it undoes an addition.
+-- Assumes nothing.
+use Prim.Native.Nat.{ℕ, _+_, _-_, _≤_}
+use mathlib.Core.Path.{_≡_}
+use mathlib.Core.List.{List, [], _∷_}
+use mathlib.Core.Bool.{true, false}
+use lib.ListN.{length, take}
+use Rattle.layout.specs.declared.Format.{Format}
+use Rattle.layout.specs.declared.Entry.{Entry}
+use Rattle.layout.specs.declared.Field.{Field}
+use Rattle.layout.specs.Bytes.{oneOf, refusal}
+use Rattle.layout.specs.Walk.{Content}
+use Rattle.layout.specs.Calls.{Told, toldRefusal}
+use Rattle.layout.specs.Add.{addField}
+use Rattle.layout.specs.Remove.{removeEntry}
+use Rattle.laws.specs.Grammar.{grammar, EntryOf}
+use Rattle.promises.specs.Words.{Counts, Item, Reads, tellsCheck, tellsAdd, tellsRemove}
+use Rattle.promises.specs.Names.{Named}
+use Rattle.promises.specs.Listing.{ListOf}
+use Rattle.promises.specs.Written.{endSize, Fits}
+use Rattle.promises.specs.Writing.{required}
+use Rattle.promises.specs.Relaid.{Relaid}
+
+-- ---- what a removal puts out
+
+-- an image without its entry i, which the edition names: i entries stand before it, and the others are kept
+pub record RemovedFrom (f e : ℕ) (image : List ℕ) (i : ℕ) (out : List ℕ) (m : ℕ) : Type 0 where
+  pub format : Format
+  -- what the entries before say, which are i, and those after
+  pub contents : List Content
+  pub counted : length contents ≡ i
+  pub later : List Content
+  -- what the entry says, and its bytes
+  pub content : Content
+  pub bytes : List ℕ
+  pub entry : EntryOf (grammar format) bytes content
+  pub named : Named format e (content .code)
+  pub relaid : Relaid f e image format contents later (content .code) bytes [] (removeEntry f e image i out .memory) out m
+
+-- ---- what it tells
+
+-- how long the image becomes whose entries end at `end`, without this one
+abbrev pub removedSize : Format → ℕ → Entry → ℕ
+removedSize format end y = end - y .size + endSize format
+
+-- of entry i of an accepted image: each line of the table where none before it holds, and the length of the image where none does
+pub data RemoveTold (f e : ℕ) (image : List ℕ) (count : ℕ) (list : ListOf f e image count) (i : ℕ) (out : List ℕ) : Told → Type 0 where
+  missing : count ≤ i → RemoveTold f e image count list i out (toldRefusal (refusal 13 0))
+  unnamed : (y : Entry) → Item (list .entries) i y → (Named (list .format) e (y .code) → ⊥) → RemoveTold f e image count list i out (toldRefusal (refusal 14 (y .place .0)))
+  needed : (y : Entry) → Item (list .entries) i y → Named (list .format) e (y .code) → oneOf (required (list .format)) (y .code) ≡ true →
+      RemoveTold f e image count list i out (toldRefusal (refusal 11 0))
+  tooLong : (y : Entry) → Item (list .entries) i y → Named (list .format) e (y .code) → oneOf (required (list .format)) (y .code) ≡ false →
+      (Fits (list .format) (removedSize (list .format) (list .end) y) out → ⊥) → RemoveTold f e image count list i out (toldRefusal (refusal 12 0))
+  taken : {t : Told} (y : Entry) → Item (list .entries) i y → Named (list .format) e (y .code) → oneOf (required (list .format)) (y .code) ≡ false →
+      Fits (list .format) (removedSize (list .format) (list .end) y) out → Counts t (removedSize (list .format) (list .end) y) → RemoveTold f e image count list i out t
+
+-- the removals from an accepted image; from a refused one every removal is refused (Lookups; where the output is too long, Asked)
+pub record Removes (f e : ℕ) (image : List ℕ) (count : ℕ) : Type 0 where
+  pub list : ListOf f e image count
+  pub tells : (i : ℕ) (out : List ℕ) → length out ≤ 65536 → RemoveTold f e image count list i out (tellsRemove f e image i out)
+
+pub record RemoveRule : Type 0 where
+  pub puts : (f e : ℕ) (image : List ℕ) (i : ℕ) (out : List ℕ) (m : ℕ) → Counts (tellsRemove f e image i out) m → RemovedFrom f e image i out m
+  pub removes : (f e : ℕ) (image : List ℕ) (count : ℕ) → Counts (tellsCheck f e image) count → Removes f e image count
+
+-- ---- an addition undone
+
+-- the removal of entry i of this image is taken, and edition n reads what is left as cs, whole and up to the length given
+pub record Undone (f e n : ℕ) (image : List ℕ) (i : ℕ) (out : List ℕ) (cs : List Content) : Type 0 where
+  pub length : ℕ
+  pub taken : Counts (tellsRemove f e image i out) length
+  pub whole : Reads f n (removeEntry f e image i out .memory) cs
+  pub front : Reads f n (take length (removeEntry f e image i out .memory)) cs
+
+-- an entry that edition e added, and which edition n reads as entry i, e removes again, from the whole output and from its part up to the length given, into any output that is not
+-- shorter; and n reads its former list
+pub record AddUndone (f e n : ℕ) (image output : List ℕ) (m : ℕ) : Type 0 where
+  pub former : List Content
+  pub before : Reads f n image former
+  pub number : ℕ
+  pub whole : (out : List ℕ) → m ≤ length out → length out ≤ 65536 → Undone f e n output number out former
+  pub front : (out : List ℕ) → m ≤ length out → length out ≤ 65536 → Undone f e n (take m output) number out former
+
+abbrev pub AddsUndone : Type 0
+AddsUndone =
+    (f e n : ℕ) (image : List ℕ) (count : ℕ) (x : Field) (more : List Field) (values out : List ℕ) (m : ℕ) → e ≤ n → Counts (tellsCheck f n image) count →
+    Counts (tellsAdd f e image (x ∷ more) values out) m → AddUndone f e n image (addField f e image (x ∷ more) values out .memory) m
