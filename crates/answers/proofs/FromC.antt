@@ -2,10 +2,10 @@
 -- Assumes nothing.
 use Prim.Native.Nat.{ℕ, zero, suc, _+_, _*_, _-_, _/_, _≤_, _<_}
 use mathlib.Core.Path.{_≡_, refl, ap, sym, _∙_}
-use mathlib.Core.List.{List, [], _∷_, _++_, append-assoc, map}
+use mathlib.Core.List.{List, [], _∷_, _++_, append-assoc, append-nil, map}
 use mathlib.Core.Bool.{Bool, true, false}
 use native.Mathlib.Omega.{arith}
-use lib.ListN.{length, getD, take, replicate, length-append, length-replicate}
+use lib.ListN.{length, getD, take, drop, replicate, length-append, length-replicate}
 use lib.Seq.{drop-at, getD-take, getD-append-add}
 use lib.Dec.{leb, eqb}
 use borrow.Author.Tests.{eqb-true, le-leb}
@@ -25,34 +25,36 @@ use Rattle.layout.specs.Bytes.{if, between, all, oneOf, part, partAt}
 use Rattle.layout.specs.Walk.{Content}
 use Rattle.layout.specs.Calls.{Told, toldRefusal, toldChecked, toldLookup, toldReading, checkImage, entryAt, moved, stepFrom}
 use Rattle.layout.specs.Write.{word, fieldAt, items, itemsIn, fieldsIn, writeImage, toldMade}
-use Rattle.layout.specs.Edit.{editEntry}
+use Rattle.layout.specs.Add.{mayAdd, addition, addField}
 use Rattle.records.specs.Packed.{packed}
 use Rattle.records.specs.Words.{wordsBytes, readingWords, formerWords, recordWords}
-use Rattle.records.specs.Exports.{recorded, entryCall, listCall, walkFormat, walkEdition, walkEntry, stepCall, checkCall, writeCall, editCall}
+use Rattle.records.specs.Exports.{recorded, entryCall, listCall, walkFormat, walkEdition, walkEntry, stepCall, checkCall, writeCall, made}
 use Rattle.records.proofs.Words.{length-words}
 use Rattle.fields.proofs.Lists.{items-none, items-more}
-use Rattle.laws.specs.Contents.{said, replaced}
+use Rattle.laws.specs.Contents.{said, replaced, without}
 use Rattle.laws.proofs.Lists.{length-map}
 use Rattle.laws.specs.Grammar.{Each, none, also as andAlso}
-use Rattle.promises.specs.Words.{Serves, Counts, Item, here, there, tellsCheck, tellsWrite, tellsEdit}
+use Rattle.promises.specs.Words.{Serves, Counts, Item, here, there, tellsCheck, Changes, edits, adds, removes}
 use Rattle.promises.specs.Kinds.{Marked}
 use Rattle.promises.specs.RoundTrip.{fieldSays}
+use Rattle.promises.specs.OlderChanges.{Kept, Keeps, Added}
 use Rattle.promises.specs.OlderReads.{Alike, AllAlike, also}
-use Rattle.promises.specs.Numbers.{Gives, taken, refused, imageNumbers, writeNumbers}
+use Rattle.promises.specs.Numbers.{Gives, taken, refused, imageNumbers, writeNumbers, changeNumbers}
 use Rattle.promises.proofs.FormatNumbers.{tabled}
-use Rattle.promises.proofs.Numbers.{call-numbers}
+use Rattle.promises.proofs.Numbers.{made-gives, call-numbers}
 use Rattle.promises.proofs.Refusals.{farthest}
 use Rattle.promises.proofs.Entries.{CheckedIn}
 use Rattle.promises.proofs.ReadCalls.{checked-in}
-use Rattle.promises.proofs.WriteCalls.{MadeLow, editNumbers, edited-low, written-low}
-use Rattle.promises.proofs.Telling.{one-format, written-some, edited-some}
+use Rattle.promises.proofs.WriteCalls.{MadeLow, edited-low, added-low, removed-low, written-low}
+use Rattle.promises.proofs.Telling.{one-format, made-some}
 use Rattle.promises.proofs.PublishedRules.{published-rules}
 use Rattle.promises.proofs.RecordKinds.{kinds}
 use Rattle.promises.proofs.RoundTrip.{round-trip}
 use Rattle.promises.proofs.OlderReads.{older-reads}
-use Rattle.promises.proofs.OlderEdits.{older-edits}
+use Rattle.promises.proofs.OlderChanges.{older-edits, older-adds, older-removes}
+use Rattle.promises.proofs.AddRule.{add-rule}
 use Rattle.answers.specs.Whole.{numberOf, countOf}
-use Rattle.answers.specs.FromC.{Bytes, OneOf, NumbersFromC, FieldsFromC, WalkFromC, fieldWords, fieldsBytes, recordWord, recordSays, KindFromC, AcceptedFromC, WrittenFromC, SameRecord, OlderFromC, FromC}
+use Rattle.answers.specs.FromC.{Bytes, OneOf, NumbersFromC, FieldsFromC, WalkFromC, fieldWords, fieldsBytes, recordWord, recordSays, KindFromC, AcceptedFromC, WrittenFromC, SameRecord, OlderFromC, ChangedFromC, ChangeFromC, AddFromC, FromC}
 use Rattle.answers.proofs.Records.{words-before}
 use Rattle.answers.proofs.Lent.{packed-taken, list-lent, stepped-recorded}
 use Rattle.answers.proofs.Packing.{whole-told}
@@ -119,7 +121,9 @@ numbers-from-c =
           rw (stepped-recorded x (moved (walkEntry w) x) w m .0)
           (recorded-one (walkEdition w) x m (gives-one (13 ∷ imageNumbers) _ refl (call-numbers .entry (walkFormat w) (walkEdition w) img (walkEntry w))));
       written = λ f e xs values out. gives-one writeNumbers _ refl (call-numbers .written f e (fieldsIn xs) values out);
-      edited = λ f e img n v out. gives-one (13 ∷ 14 ∷ 12 ∷ imageNumbers) _ refl (call-numbers .edited f e img n v out);
+      edited = λ f e img n v out. gives-one changeNumbers _ refl (call-numbers .edited f e img n v out);
+      added = λ f e img xs values out. gives-one changeNumbers _ refl (call-numbers .added f e img (fieldsIn xs) values out);
+      removed = λ f e img n out. gives-one changeNumbers _ refl (call-numbers .removed f e img n out);
     }
 
 -- ---- items in lent bytes
@@ -187,23 +191,11 @@ made-counts numbers most x n q l =
     let l′ : MadeLow numbers most (Wrote n) = rw q at l in
     rw q (whole-told n (partAt 0 0) [] (omega arith) (omega arith) .count refl)
 
-module _ (f e : ℕ) (xs values out : List ℕ) (z : numberOf (writeCall f e xs values out .answer) ≡ 0) where
-  write-counts : Counts (tellsWrite f e (fieldsIn xs) values out) (countOf (writeCall f e xs values out .answer))
-  unfolding all
-  write-counts =
-      let t = tellsWrite f e (fieldsIn xs) values out in
-      let w = written-some f e (fieldsIn xs) values out (gives-zero writeNumbers t refl (call-numbers .written f e (fieldsIn xs) values out) z) in
-      let n = made-counts writeNumbers _ (writeImage f e (fieldsIn xs) values out .answer) (w .0) (w .1) (written-low f e (fieldsIn xs) values out) in
-      rw n (ap toldMade (w .1))
-
-module _ (f e : ℕ) (image : List ℕ) (i : ℕ) (v out : List ℕ) (z : numberOf (editCall f e image i v out .answer) ≡ 0) where
-  edit-counts : Counts (tellsEdit f e image i v out) (countOf (editCall f e image i v out .answer))
-  unfolding all
-  edit-counts =
-      let t = tellsEdit f e image i v out in
-      let w = edited-some f e image i v out (gives-zero (13 ∷ 14 ∷ 12 ∷ imageNumbers) t refl (call-numbers .edited f e image i v out) z) in
-      let n = made-counts editNumbers farthest (editEntry f e image i v out .answer) (w .0) (w .1) (edited-low f e image i v out) in
-      rw n (ap toldMade (w .1))
+made-taken : (numbers : List ℕ) (most : ℕ) → all (between 1 20) numbers ≡ true → (x : Made) → MadeLow numbers most x → numberOf (packed (toldMade x)) ≡ 0 →
+    Counts (toldMade x) (countOf (packed (toldMade x)))
+made-taken numbers most table x low z =
+    let w = made-some numbers most table x low (gives-zero numbers (toldMade x) table (made-gives numbers most x low) z) in
+    rw (made-counts numbers most x (w .0) (w .1) low) (ap toldMade (w .1))
 
 -- ---- demand 2
 
@@ -266,10 +258,11 @@ module _ (f e : ℕ) (image : List ℕ) (bs : Bytes image) (n : ℕ) (c : Counts
       }
 
 written-from-c : WrittenFromC
+unfolding all
 written-from-c f e xs values out z bs =
     let n = countOf (writeCall f e xs values out .answer) in
     let output : List ℕ = writeCall f e xs values out .memory in
-    let r = round-trip f e (fieldsIn xs) values out n (write-counts f e xs values out z) in
+    let r = round-trip f e (fieldsIn xs) values out n (made-taken writeNumbers (length (fieldsIn xs)) refl (writeImage f e (fieldsIn xs) values out .answer) (written-low f e (fieldsIn xs) values out) z) in
     let cs : List Content = map (fieldSays f values) (fieldsIn xs) in
     (reads-back f e output cs bs (r .0), reads-back f e (take n output) cs (each-take n output bs) (r .1))
 
@@ -344,6 +337,66 @@ older-from-c f o n g image bs count serves le c =
           (record-words f n image bs (r .newer) (r .listed .1) m (omega (arith, counted, r .counted .1)) j (y .0) (y .1));
     }
 
+-- ---- changes
+
+-- what C sees of a change that a newer edition reads
+kept-from-c : {f n : ℕ} {image : List ℕ} {Makes : List Content → List Content → Type 0} {output : List ℕ} {m : ℕ} → Bytes image → Bytes output →
+    Kept f n image Makes output m → ChangedFromC f n image Makes output m
+kept-from-c {f = f} {n = n} {image = image} {output = output} {m = m} bs outBytes k =
+    record {
+      former = k .former;
+      latter = k .latter;
+      makes = k .makes;
+      before = reads-back f n image (k .former) bs (k .before);
+      whole = reads-back f n output (k .latter) outBytes (k .whole);
+      front = reads-back f n (take m output) (k .latter) (each-take m output outBytes) (k .front);
+      frames = (
+        frames-from-c f n output outBytes (length (k .whole .entries)) (k .whole .accepted),
+        frames-from-c f n (take m output) (each-take m output outBytes) (length (k .front .entries)) (k .front .accepted),
+      );
+    }
+
+-- of any call whose answers are of the table
+change-from-c : (call : Changes) (makes : ℕ → List Content → List Content → Type 0) → ((f e : ℕ) (image out : List ℕ) → MadeLow changeNumbers farthest (call f e image out .answer)) →
+    Keeps call makes → ChangeFromC (λ f e image out. made (call f e image out)) makes
+unfolding all
+change-from-c call makes low keeps f o n image out bs le z y outBytes =
+    let c = check-counts f n image z in
+    let answer = call f o image out .answer in
+    kept-from-c bs outBytes (keeps f o n image (c .0) out (countOf (packed (toldMade answer))) le (c .1) (made-taken changeNumbers farthest refl answer (low f o image out) y))
+
+-- the first field in lent bytes
+first-field : (x : Field) (more : List ℕ) → Each (λ w. w < 4294967296) (fieldWords x) → (rest : List Field) × (fieldsIn (wordsBytes (fieldWords x) ++ more) ≡ x ∷ rest)
+unfolding fieldsIn
+first-field x more fits =
+    let bytes : List ℕ = wordsBytes (fieldWords x) ++ more in
+    let long : length bytes ≡ suc (19 + length more) = omega (arith, length-append (wordsBytes (fieldWords x)) more, length-words (fieldWords x)) in (
+      items 20 fieldAt (19 + length more) (drop 20 bytes),
+      ap (λ (n : ℕ). items 20 fieldAt n bytes) long ∙ items-more 20 fieldAt (19 + length more) bytes (omega arith)
+          ∙ ap (λ (y : Field). y ∷ items 20 fieldAt (19 + length more) (drop 20 bytes)) (field-back x more fits),
+    )
+
+-- no other field is looked at
+first-only : (f e : ℕ) (image : List ℕ) (x : Field) (xs ys : List Field) (values out : List ℕ) → addField f e image (x ∷ xs) values out ≡ addField f e image (x ∷ ys) values out
+unfolding addition mayAdd
+first-only f e image x xs ys values out = refl
+
+add-from-c : AddFromC
+unfolding fieldsIn
+add-from-c =
+    record {
+      changed = λ x more values fits.
+          let first = first-field x more fits in
+          rw (first .1) (change-from-c (adds (x ∷ first .0) values) (λ f. Added f (fieldSays f values x)) (λ f e image out. added-low f e image (x ∷ first .0) values out) (older-adds x (first .0) values));
+      unread = λ x more values fits f e image out.
+          let long = first-field x more fits in
+          let alone = rw (append-nil (wordsBytes (fieldWords x))) at (first-field x [] fits) in
+          rw (long .1, alone .1) (ap made (first-only f e image x (long .0) (alone .0) values out));
+      short = λ f e image field values out lt le z.
+          let c = check-counts f e image z in
+          rw (items-none 20 fieldAt (length field) field lt) (ap packed (add-rule .adds f e image (c .0) (c .1) .noField values out le));
+    }
+
 pub from-c : FromC
 from-c =
     record {
@@ -353,19 +406,8 @@ from-c =
       accepted = λ f e image bs z. let c = check-counts f e image z in accepted-from-c f e image bs (c .0) (c .1);
       written = written-from-c;
       older = λ f o n g image bs serves le z. let c = check-counts f n image z in older-from-c f o n g image bs (c .0) serves le (c .1);
-      edited = λ f o n image i v out bs le z y outBytes.
-          let c = check-counts f n image z in
-          let m = countOf (editCall f o image i v out .answer) in
-          let output : List ℕ = editCall f o image i v out .memory in
-          let r = older-edits f o n image (c .0) i v out m le (c .1) (edit-counts f o image i v out y) in
-          record {
-            former = r .former;
-            before = reads-back f n image (r .former) bs (r .before);
-            whole = reads-back f n output (replaced (r .former) i v) outBytes (r .whole);
-            front = reads-back f n (take m output) (replaced (r .former) i v) (each-take m output outBytes) (r .front);
-            frames = (
-              frames-from-c f n output outBytes (length (r .whole .entries)) (r .whole .accepted),
-              frames-from-c f n (take m output) (each-take m output outBytes) (length (r .front .entries)) (r .front .accepted),
-            );
-          };
+      edited = λ i v. change-from-c (edits i v) (λ f former latter. latter ≡ replaced former i v) (λ f e image out. edited-low f e image i v out) (older-edits i v);
+      added = add-from-c;
+      removed = λ i.
+          change-from-c (removes i) (λ f former latter. (i < length former) × (latter ≡ without former i)) (λ f e image out. removed-low f e image i out) (older-removes i);
     }

@@ -25,7 +25,7 @@ use Rattle.records.specs.Packed.{packed}
 use Rattle.records.specs.Words.{wordBytes, wordsBytes, recordBytes, recordsBytes}
 use Rattle.records.specs.Exports.{Given, kept, recorded, entryCall, recordedAll, recordedBy, listCall, walkFormat, walkEdition, walkEntry, walkAt, steppedTo, stepCall}
 use Rattle.records.proofs.Words.{length-record, length-records}
-use Rattle.promises.specs.Words.{Counts, IsRefused, Item, here, there, Lists, tellsList, tellsWrite, tellsEdit}
+use Rattle.promises.specs.Words.{Counts, IsRefused, Item, here, there, Lists, tellsList, tellsWrite, tellsEdit, tellsAdd, tellsRemove}
 use Rattle.promises.specs.Numbers.{imageNumbers}
 use Rattle.promises.specs.Lookups.{given}
 use Rattle.answers.specs.Whole.{numberOf}
@@ -268,6 +268,8 @@ lent =
                 (stepped-kept x n w m r, stepped-recorded x n w m .1 ∙ recorded-kept (walkEdition w) x m (rw (stepped-recorded x n w m .0) at r));
             written = λ f e fields values out r. unchanged .written f e (fieldsIn fields) values out (is-refused (tellsWrite f e (fieldsIn fields) values out) r);
             edited = λ f e img n v out r. unchanged .edited f e img n v out (is-refused (tellsEdit f e img n v out) r);
+            added = λ f e img xs values out r. unchanged .added f e img (fieldsIn xs) values out (is-refused (tellsAdd f e img (fieldsIn xs) values out) r);
+            removed = λ f e img n out r. unchanged .removed f e img n out (is-refused (tellsRemove f e img n out) r);
           };
       listed = list-lent;
       entry = λ f e img n m. record { answers = recorded-answers e (entryAt f e img n) m; stands = λ x le q. record-stands e (entryAt f e img n) x m le q };

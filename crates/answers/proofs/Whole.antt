@@ -19,13 +19,15 @@ use Rattle.layout.specs.Bytes.{between, all, oneOf, partAt, refusal}
 use Rattle.layout.specs.Calls.{toldRefusal, toldChecked, toldLookup, toldLocated, entriesIn, checkImage, entryAt, valueAt, stringAt}
 use Rattle.layout.specs.Write.{fieldsIn, writeImage, toldMade}
 use Rattle.layout.specs.Edit.{editEntry}
+use Rattle.layout.specs.Add.{addField}
+use Rattle.layout.specs.Remove.{removeEntry}
 use Rattle.fields.proofs.Lists.{how-many}
-use Rattle.promises.specs.Numbers.{imageNumbers, writeNumbers}
+use Rattle.promises.specs.Numbers.{imageNumbers, writeNumbers, changeNumbers}
 use Rattle.promises.proofs.FormatNumbers.{Low}
 use Rattle.promises.proofs.Refusals.{farthest}
 use Rattle.promises.proofs.Entries.{CheckedIn, LookupIn, LocatedIn}
 use Rattle.promises.proofs.ReadCalls.{entries-few, checked-in, entry-in, value-in, string-in}
-use Rattle.promises.proofs.WriteCalls.{MadeLow, editNumbers, edited-low, written-low}
+use Rattle.promises.proofs.WriteCalls.{MadeLow, edited-low, added-low, removed-low, written-low}
 use Rattle.answers.specs.Whole.{Whole, WholeReads, WholeWrites}
 use Rattle.answers.proofs.Packing.{whole-refusal, whole-told}
 
@@ -70,7 +72,9 @@ pub whole-writes : WholeWrites
 unfolding all
 whole-writes =
     record {
-      edited = λ f e img i v out. made-whole editNumbers farthest (editEntry f e img i v out .answer) refl (omega arith) (edited-low f e img i v out);
+      edited = λ f e img i v out. made-whole changeNumbers farthest (editEntry f e img i v out .answer) refl (omega arith) (edited-low f e img i v out);
+      added = λ f e img xs values out. made-whole changeNumbers farthest (addField f e img xs values out .answer) refl (omega arith) (added-low f e img xs values out);
+      removed = λ f e img i out. made-whole changeNumbers farthest (removeEntry f e img i out .answer) refl (omega arith) (removed-low f e img i out);
       written = λ f e xs values out lt. made-whole writeNumbers (length xs) (writeImage f e xs values out .answer) refl lt (written-low f e xs values out);
       lent = λ f e fields values out lt.
           let xs = fieldsIn fields in

@@ -9,20 +9,22 @@ use lib.ListN.{length, getD, take, replicate}
 use Rattle.layout.specs.declared.Format.{Format}
 use Rattle.layout.specs.declared.Reading.{Reading}
 use Rattle.layout.specs.declared.Field.{Field}
-use Rattle.layout.specs.Bytes.{oneOf, part}
+use Rattle.layout.specs.Bytes.{oneOf, part, refusal}
 use Rattle.layout.specs.Walk.{Content}
-use Rattle.layout.specs.Calls.{toldReading}
+use Rattle.layout.specs.Calls.{toldReading, toldRefusal}
 use Rattle.layout.specs.Write.{word, fieldsIn}
-use Rattle.laws.specs.Contents.{replaced}
+use Rattle.laws.specs.Contents.{replaced, without}
 use Rattle.laws.specs.Grammar.{Each, Published}
+use Rattle.records.specs.Packed.{packed}
 use Rattle.records.specs.Words.{wordsBytes}
-use Rattle.records.specs.Exports.{checkCall, valueCall, stringCall, entryCall, listCall, walkFormat, walkEdition, walkEntry, stepCall, writeCall, editCall}
+use Rattle.records.specs.Exports.{checkCall, valueCall, stringCall, entryCall, listCall, walkFormat, walkEdition, walkEntry, stepCall, writeCall, editCall, addCall, removeCall, Given}
 use Rattle.promises.specs.Words.{Serves, Item}
 use Rattle.promises.specs.Listing.{EndsAt}
 use Rattle.promises.specs.Names.{Named}
 use Rattle.promises.specs.Kinds.{Means}
-use Rattle.promises.specs.Numbers.{imageNumbers, writeNumbers}
+use Rattle.promises.specs.Numbers.{imageNumbers, writeNumbers, changeNumbers}
 use Rattle.promises.specs.RoundTrip.{fieldSays}
+use Rattle.promises.specs.OlderChanges.{Added}
 use Rattle.answers.specs.Whole.{numberOf, countOf}
 
 abbrev pub Bytes : List ℕ → Type 0
@@ -43,7 +45,9 @@ pub record NumbersFromC : Type 0 where
   pub string : (f e : ℕ) (img : List ℕ) (number : ℕ) → OneOf (15 ∷ imageNumbers) (stringCall f e img number)
   pub stepped : (w img m : List ℕ) → OneOf (12 ∷ 13 ∷ imageNumbers) (stepCall w img m .answer)
   pub written : (f e : ℕ) (fields values out : List ℕ) → OneOf writeNumbers (writeCall f e fields values out .answer)
-  pub edited : (f e : ℕ) (img : List ℕ) (n : ℕ) (value out : List ℕ) → OneOf (13 ∷ 14 ∷ 12 ∷ imageNumbers) (editCall f e img n value out .answer)
+  pub edited : (f e : ℕ) (img : List ℕ) (n : ℕ) (value out : List ℕ) → OneOf changeNumbers (editCall f e img n value out .answer)
+  pub added : (f e : ℕ) (img field values out : List ℕ) → OneOf changeNumbers (addCall f e img field values out .answer)
+  pub removed : (f e : ℕ) (img : List ℕ) (n : ℕ) (out : List ℕ) → OneOf changeNumbers (removeCall f e img n out .answer)
 
 -- ---- how C reads a list
 
@@ -153,13 +157,31 @@ pub record OlderFromC (f o n : ℕ) (image : List ℕ) : Type 0 where
   pub alike : (m : List ℕ) → countOf (checkCall f n image) * 64 ≤ length m → (j : ℕ) → j < countOf (checkCall f n image) →
       SameRecord format o (listCall f o image m .memory) (listCall f n image m .memory) j
 
--- edition n reads its former list with value i replaced, in the whole output and in its part up to the length given, and the frames of both stand one after another
-pub record EditedFromC (f n : ℕ) (image : List ℕ) (i : ℕ) (value output : List ℕ) (m : ℕ) : Type 0 where
+-- edition n reads what a change has made of its former list, in the whole output and in its part up to the length given, and the frames of both stand one after another
+pub record ChangedFromC (f n : ℕ) (image : List ℕ) (Makes : List Content → List Content → Type 0) (output : List ℕ) (m : ℕ) : Type 0 where
   pub former : List Content
+  pub latter : List Content
+  pub makes : Makes former latter
   pub before : ReadFromC f n image former
-  pub whole : ReadFromC f n output (replaced former i value)
-  pub front : ReadFromC f n (take m output) (replaced former i value)
+  pub whole : ReadFromC f n output latter
+  pub front : ReadFromC f n (take m output) latter
   pub frames : FramesFromC f n output × FramesFromC f n (take m output)
+
+-- of a call by format, edition, image and output; o is no newer than n
+abbrev pub ChangeFromC : (ℕ → ℕ → List ℕ → List ℕ → Given) → (ℕ → List Content → List Content → Type 0) → Type 0
+ChangeFromC call makes =
+    (f o n : ℕ) (image out : List ℕ) → Bytes image → o ≤ n → numberOf (checkCall f n image) ≡ 0 → numberOf (call f o image out .answer) ≡ 0 →
+    let output = call f o image out .memory in
+    Bytes output → ChangedFromC f n image (makes f) output (countOf (call f o image out .answer))
+
+-- an addition: of a field whose words fit, whatever bytes follow it. With fewer than 20 bytes it is 13 at 0, after the image's own refusals
+pub record AddFromC : Type 0 where
+  pub changed : (x : Field) (more values : List ℕ) → Each (λ w. w < 4294967296) (fieldWords x) →
+      ChangeFromC (λ f e image out. addCall f e image (wordsBytes (fieldWords x) ++ more) values out) (λ f. Added f (fieldSays f values x))
+  pub unread : (x : Field) (more values : List ℕ) → Each (λ w. w < 4294967296) (fieldWords x) → (f e : ℕ) (image out : List ℕ) →
+      addCall f e image (wordsBytes (fieldWords x) ++ more) values out ≡ addCall f e image (wordsBytes (fieldWords x)) values out
+  pub short : (f e : ℕ) (image field values out : List ℕ) → length field < 20 → length out ≤ 65536 → numberOf (checkCall f e image) ≡ 0 →
+      addCall f e image field values out .answer ≡ packed (toldRefusal (refusal 13 0))
 
 -- o is no newer than n
 pub record FromC : Type 0 where
@@ -169,7 +191,6 @@ pub record FromC : Type 0 where
   pub accepted : (f e : ℕ) (image : List ℕ) → Bytes image → numberOf (checkCall f e image) ≡ 0 → AcceptedFromC f e image
   pub written : WrittenFromC
   pub older : (f o n : ℕ) (format : Format) (image : List ℕ) → Bytes image → Serves f o format → o ≤ n → numberOf (checkCall f n image) ≡ 0 → OlderFromC f o n image
-  pub edited : (f o n : ℕ) (image : List ℕ) (i : ℕ) (value out : List ℕ) → Bytes image → o ≤ n → numberOf (checkCall f n image) ≡ 0 →
-      numberOf (editCall f o image i value out .answer) ≡ 0 →
-      let output = editCall f o image i value out .memory in
-      Bytes output → EditedFromC f n image i value output (countOf (editCall f o image i value out .answer))
+  pub edited : (i : ℕ) (value : List ℕ) → ChangeFromC (λ f e image out. editCall f e image i value out) (λ f former latter. latter ≡ replaced former i value)
+  pub added : AddFromC
+  pub removed : (i : ℕ) → ChangeFromC (λ f e image out. removeCall f e image i out) (λ f former latter. (i < length former) × (latter ≡ without former i))

@@ -10,7 +10,7 @@ use Rattle.layout.specs.Bytes.{part, refusal}
 use Rattle.layout.specs.Calls.{Told, toldRefusal}
 use Rattle.records.specs.Packed.{packed}
 use Rattle.records.specs.Words.{recordBytes}
-use Rattle.records.specs.Exports.{entryCall, listCall, writeCall, editCall, walkFormat, walkEdition, walkEntry, stepCall}
+use Rattle.records.specs.Exports.{entryCall, listCall, writeCall, editCall, addCall, removeCall, walkFormat, walkEdition, walkEntry, stepCall}
 use Rattle.promises.specs.Words.{IsRefused, Item, Lists, tellsList, tellsEntry}
 use Rattle.promises.specs.Lookups.{given}
 use Rattle.answers.specs.Whole.{numberOf}
@@ -27,6 +27,8 @@ pub record UnchangedLent : Type 0 where
   pub stepped : (w img m : List ℕ) → RefusedAnswer (stepCall w img m .answer) → (stepCall w img m .walk ≡ w) × (stepCall w img m .memory ≡ m)
   pub written : (f e : ℕ) (fields values out : List ℕ) → RefusedAnswer (writeCall f e fields values out .answer) → writeCall f e fields values out .memory ≡ out
   pub edited : (f e : ℕ) (img : List ℕ) (n : ℕ) (value out : List ℕ) → RefusedAnswer (editCall f e img n value out .answer) → editCall f e img n value out .memory ≡ out
+  pub added : (f e : ℕ) (img field values out : List ℕ) → RefusedAnswer (addCall f e img field values out .answer) → addCall f e img field values out .memory ≡ out
+  pub removed : (f e : ℕ) (img : List ℕ) (n : ℕ) (out : List ℕ) → RefusedAnswer (removeCall f e img n out .answer) → removeCall f e img n out .memory ≡ out
 
 -- ---- the list
 

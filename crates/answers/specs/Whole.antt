@@ -9,6 +9,8 @@ use Rattle.layout.specs.Bytes.{partAt, refusal}
 use Rattle.layout.specs.Calls.{Told, told, toldRefusal, toldChecked, toldLookup, toldLocated, checkImage, entriesIn, entryAt, valueAt, stringAt}
 use Rattle.layout.specs.Write.{fieldsIn, writeImage, toldMade}
 use Rattle.layout.specs.Edit.{editEntry}
+use Rattle.layout.specs.Add.{addField}
+use Rattle.layout.specs.Remove.{removeEntry}
 use Rattle.records.specs.Packed.{packed}
 
 -- ---- how C takes an answer apart
@@ -52,5 +54,7 @@ pub record WholeReads : Type 0 where
 -- A list in fewer than 2^63 lent bytes has fewer, as a field has 20 bytes
 pub record WholeWrites : Type 0 where
   pub edited : (f e : ℕ) (img : List ℕ) (i : ℕ) (v out : List ℕ) → Whole (toldMade (editEntry f e img i v out .answer))
+  pub added : (f e : ℕ) (img : List ℕ) (xs : List Field) (values out : List ℕ) → Whole (toldMade (addField f e img xs values out .answer))
+  pub removed : (f e : ℕ) (img : List ℕ) (i : ℕ) (out : List ℕ) → Whole (toldMade (removeEntry f e img i out .answer))
   pub written : (f e : ℕ) (xs : List Field) (values out : List ℕ) → length xs < 576460752303423488 → Whole (toldMade (writeImage f e xs values out .answer))
   pub lent : (f e : ℕ) (fields values out : List ℕ) → length fields < 9223372036854775808 → Whole (toldMade (writeImage f e (fieldsIn fields) values out .answer))

@@ -14,6 +14,8 @@ use Rattle.layout.specs.Read.{Read, accepted, refused, readImage}
 use Rattle.layout.specs.Calls.{Step, told, toldRefusal, toldChecked, toldLocated, toldLookup, checkImage, entriesOf, entryAt, valueAt, stringAt, stepFrom}
 use Rattle.layout.specs.Write.{word, fieldsIn, Outcome, writeImage, toldMade}
 use Rattle.layout.specs.Edit.{editEntry}
+use Rattle.layout.specs.Add.{addField}
+use Rattle.layout.specs.Remove.{removeEntry}
 use Rattle.blocks.specs.declared.Offsets.{Offsets}
 use Rattle.blocks.specs.declared.Vended.{Vended}
 use Rattle.blocks.specs.declared.Vended.the-variants.{Tells, Unread}
@@ -109,7 +111,7 @@ recordedBy (refused r) e m = kept r m
 unfoldable pub listCall : ℕ → ℕ → List ℕ → List ℕ → Given
 listCall f e img m = recordedBy (readImage f e img) e m
 
--- ---- write and edit
+-- ---- write, edit, add and remove
 
 abbrev pub made : Outcome → Given
 made o = record { answer = packed (toldMade (o .answer)); memory = o .memory }
@@ -119,6 +121,13 @@ writeCall f e fields values out = made (writeImage f e (fieldsIn fields) values 
 
 abbrev pub editCall : ℕ → ℕ → List ℕ → ℕ → List ℕ → List ℕ → Given
 editCall f e img n value out = made (editEntry f e img n value out)
+
+-- the field is the first one of the bytes that are lent for it
+abbrev pub addCall : ℕ → ℕ → List ℕ → List ℕ → List ℕ → List ℕ → Given
+addCall f e img field values out = made (addField f e img (fieldsIn field) values out)
+
+abbrev pub removeCall : ℕ → ℕ → List ℕ → ℕ → List ℕ → Given
+removeCall f e img n out = made (removeEntry f e img n out)
 
 -- ---- vendor blocks
 
