@@ -1,21 +1,27 @@
 /*
- * edit: gives one entry of an image file a new value.
+ * edit: changes an image file: gives one entry a new value, adds a field, or removes an entry.
  *
  *     edit [-x] [-s SIZE] fboss|vpd|tiny|onie FILE ENTRY VALUE
+ *     edit [-x] [-s SIZE] fboss|tiny|onie FILE add CODE VALUE
+ *     edit [-x] [-s SIZE] vpd FILE add CODE KEY VALUE
+ *     edit [-s SIZE] fboss|vpd|tiny|onie FILE remove ENTRY
  *
- * Compiled with the header of edition 1 or 2, it has no onie.
+ * Compiled with the header of edition 1 or 2, it has no onie. To compile this program takes a
+ * header of version 4.1 or later.
  *
- * ENTRY is the entry's number, as the example list prints it. VALUE is the new value as text; with
+ * ENTRY is the entry's number, as the example list prints it. CODE is the code of the new field, in
+ * decimal, or in hexadecimal as 0x2D. KEY is its key, as text. VALUE is the new value as text; with
  * -x it is bytes in hexadecimal, which may be parted by colons or spaces. The file keeps its size,
- * or gets that of -s; its bytes after the image's end become FFh.
+ * or gets that of -s; its bytes after the image's end become FFh. Where the image has no room for a
+ * new field, -s gives it some.
  *
  * The file is either the old one or the new one, whole, at any time: the new image is made in a
  * second buffer, written to a temporary file beside the old one, brought to the disk, and only then
  * given the old one's name. Its permissions and its owner stay. Where anything is refused or fails,
  * the file stays as it was.
  *
- * Exit status: 0 edited, 1 the library refused the edit, 2 a wrong command line, 3 the file could
- * not be read or written.
+ * Exit status: 0 changed, 1 the library refused the change, 2 a wrong command line, 3 the file
+ * could not be read or written.
  */
 #define _XOPEN_SOURCE 700
 
@@ -33,19 +39,27 @@ static int hex_digit(char character)
     return found - digits < 16 ? (int)(found - digits) : (int)(found - digits) - 6;
 }
 
-/* The bytes of a new value. */
-struct new_value {
+/* The bytes of a new value; of a new field its key, and then its value. */
+struct new_bytes {
     uint8_t *bytes;
     size_t length;
 };
 
+/* Appends a word to bytes that have room for its characters. */
+static void append_word(const char *word, struct new_bytes *bytes)
+{
+    size_t length = strlen(word);
+
+    memcpy(bytes->bytes + bytes->length, word, length);
+    bytes->length += length;
+}
+
 /*
- * Puts bytes written in hexadecimal into a value that has room for as many bytes as the word has
+ * Appends bytes written in hexadecimal to bytes that have room for as many as the word has
  * characters. Returns 0, or -1 where the word is no such bytes.
  */
-static int bytes_of_word(const char *word, struct new_value *value)
+static int append_hex(const char *word, struct new_bytes *bytes)
 {
-    value->length = 0;
     while (*word != '\0') {
         int high = hex_digit(word[0]);
         int low = high >= 0 ? hex_digit(word[1]) : -1;
@@ -53,7 +67,7 @@ static int bytes_of_word(const char *word, struct new_value *value)
         if (low < 0) {
             return -1;
         }
-        value->bytes[value->length++] = (uint8_t)(high * 16 + low);
+        bytes->bytes[bytes->length++] = (uint8_t)(high * 16 + low);
         word += 2;
         if ((*word == ':' || *word == ' ') && word[1] != '\0') {
             word++;
@@ -62,12 +76,75 @@ static int bytes_of_word(const char *word, struct new_value *value)
     return 0;
 }
 
+/* A code in decimal, or in hexadecimal after 0x; returns 0, or -1 where the word is none. */
+static int code_of_word(const char *word, uint32_t *code)
+{
+    unsigned long long number = 0;
+
+    if (word[0] != '0' || (word[1] != 'x' && word[1] != 'X')) {
+        if (number_of_word(word, UINT32_MAX, &number) != 0) {
+            return -1;
+        }
+    } else {
+        word += 2;
+        do {
+            int digit = hex_digit(*word++);
+
+            if (digit < 0 || number > UINT32_MAX / 16) {
+                return -1;
+            }
+            number = number * 16 + (unsigned)digit;
+        } while (*word != '\0');
+    }
+    *code = (uint32_t)number;
+    return 0;
+}
+
+/* A change of an image, as the command line says it. */
+struct change {
+    enum { EDIT, ADD, REMOVE } what;
+    const char *word;                  /* the entry's number or the field's code, as given */
+    unsigned long long entry;          /* of an edit and a removal */
+    uint8_t field[BOARDID_FIELD_SIZE]; /* of an addition; its parts are parts of the bytes */
+    struct new_bytes bytes;
+};
+
+/* Puts the changed image into out; returns the library's answer. */
+static uint64_t changed(uint32_t format, const struct image_file *image,
+                        const struct change *change, uint8_t *out, size_t out_length)
+{
+    switch (change->what) {
+    case ADD:
+        return boardid_add_field(format, image->bytes, image->length, change->field,
+                                 sizeof change->field, change->bytes.bytes, change->bytes.length,
+                                 out, out_length);
+    case REMOVE:
+        return boardid_remove_entry(format, image->bytes, image->length, change->entry, out,
+                                    out_length);
+    default:
+        return boardid_edit_entry(format, image->bytes, image->length, change->entry,
+                                  change->bytes.bytes, change->bytes.length, out, out_length);
+    }
+}
+
+/* Says what was done to a file. */
+static void print_done(const char *name, const struct change *change, uint64_t answer,
+                       size_t file_length)
+{
+    static const char *const words[][2] = {
+        [EDIT] = {"entry", "edited"}, [ADD] = {"code", "added"}, [REMOVE] = {"entry", "removed"}};
+
+    printf("%s: %s %s %s, the image has %lu of the file's %lu bytes\n", name,
+           words[change->what][0], change->word, words[change->what][1],
+           (unsigned long)boardid_answer_count(answer), (unsigned long)file_length);
+}
+
 /*
- * Edits the file of a name as the user gave it, whose own path, with symbolic links followed, is
+ * Changes the file of a name as the user gave it, whose own path, with symbolic links followed, is
  * path. Returns the exit status.
  */
-static int edit(const char *name, const char *path, uint32_t format, uint64_t entry,
-                const struct new_value *value, long long size)
+static int change_file(const char *name, const char *path, uint32_t format,
+                       const struct change *change, long long size)
 {
     struct image_file image;
     struct stat old;
@@ -95,8 +172,7 @@ static int edit(const char *name, const char *path, uint32_t format, uint64_t en
         free(image.bytes);
         return FAILED;
     }
-    answer = boardid_edit_entry(format, image.bytes, image.length, entry, value->bytes,
-                                value->length, out, out_length);
+    answer = changed(format, &image, change, out, out_length);
     if (boardid_answer_number(answer) != 0) {
         report_refusal("edit", name, answer);
         status = REFUSED;
@@ -108,9 +184,7 @@ static int edit(const char *name, const char *path, uint32_t format, uint64_t en
                 strerror(errno));
         status = FAILED;
     } else {
-        printf("%s: entry %llu edited, the image has %lu of the file's %lu bytes\n", name,
-               (unsigned long long)entry, (unsigned long)boardid_answer_count(answer),
-               (unsigned long)out_length);
+        print_done(name, change, answer, out_length);
     }
     free(out);
     free(image.bytes);
@@ -121,18 +195,62 @@ static int edit(const char *name, const char *path, uint32_t format, uint64_t en
 static int usage(void)
 {
     fprintf(stderr, "usage: edit [-x] [-s SIZE] " FORMAT_WORDS " FILE ENTRY VALUE\n"
+                    "       edit [-x] [-s SIZE] " FORMAT_WORDS " FILE add CODE [KEY] VALUE\n"
+                    "       edit [-s SIZE] " FORMAT_WORDS " FILE remove ENTRY\n"
                     "  -x       VALUE is bytes in hexadecimal, as 0a1b or 0a:1b\n"
                     "  -s SIZE  the size of the new file, at most 65536; else it stays\n"
-                    "  ENTRY    the entry's number, as list prints it\n");
+                    "  ENTRY    the entry's number, as list prints it\n"
+                    "  CODE     the new field's code, as 17 or 0x2D\n"
+                    "  KEY      the new field's key, in vpd, and only there\n");
     return BAD_USAGE;
+}
+
+/*
+ * Reads a change from the words of the command line after the file's name, into bytes that have
+ * room for them all. Returns the exit status; where it is not DONE, the user has been told.
+ */
+static int change_of_words(uint32_t format, char **words, int count, int hex, struct change *change)
+{
+    const int key = format == BOARDID_FORMAT_VPD ? 1 : 0;
+    struct boardid_field field = {0, 0, 0, 0, 0};
+
+    change->what = EDIT;
+    if (strcmp(words[0], "add") == 0 || strcmp(words[0], "remove") == 0) {
+        change->what = strcmp(words[0], "add") == 0 ? ADD : REMOVE;
+        words++;
+        count--;
+    }
+    if (count != (change->what == ADD ? 2 + key : change->what == EDIT ? 2 : 1)) {
+        return usage();
+    }
+    change->word = words[0];
+    if (change->what == ADD ? code_of_word(words[0], &field.code) != 0
+                            : number_of_word(words[0], UINT64_MAX, &change->entry) != 0) {
+        return usage();
+    }
+    if (change->what == ADD && key) {
+        append_word(words[1], &change->bytes);
+        field.key_length = (uint32_t)change->bytes.length;
+    }
+    if (change->what != REMOVE && !hex) {
+        append_word(words[count - 1], &change->bytes);
+    } else if (change->what != REMOVE && append_hex(words[count - 1], &change->bytes) != 0) {
+        fprintf(stderr, "edit: %s is not bytes in hexadecimal\n", words[count - 1]);
+        return BAD_USAGE;
+    }
+    field.value_place = field.key_length;
+    field.value_length = (uint32_t)change->bytes.length - field.key_length;
+    boardid_field_set(change->field, 0, field);
+    return DONE;
 }
 
 int main(int argc, char **argv)
 {
-    unsigned long long number = 0, entry = 0;
-    struct new_value value;
+    unsigned long long number = 0;
+    struct change change = {EDIT, NULL, 0, {0}, {NULL, 0}};
     long long size = -1;
-    int hex = 0, option, status;
+    int hex = 0, option, count, k, status;
+    size_t room = 1;
     uint32_t format;
     char **words, *path;
 
@@ -147,33 +265,30 @@ int main(int argc, char **argv)
         }
     }
     words = argv + optind;
-    if (argc - optind != 4) {
+    count = argc - optind;
+    format = count >= 3 ? format_of_word(words[0]) : 0;
+    if (format == 0) {
         return usage();
     }
-    format = format_of_word(words[0]);
-    if (format == 0 || number_of_word(words[2], UINT64_MAX, &entry) != 0) {
-        return usage();
+    for (k = 2; k < count; k++) {
+        room += strlen(words[k]);
     }
-    value.length = strlen(words[3]);
-    value.bytes = malloc(value.length + 1);
-    if (value.bytes == NULL) {
+    change.bytes.bytes = malloc(room);
+    if (change.bytes.bytes == NULL) {
         fprintf(stderr, "edit: no memory for the value\n");
         return FAILED;
     }
-    memcpy(value.bytes, words[3], value.length + 1);
-    if (hex && bytes_of_word(words[3], &value) != 0) {
-        fprintf(stderr, "edit: %s is not bytes in hexadecimal\n", words[3]);
-        free(value.bytes);
-        return BAD_USAGE;
+    status = change_of_words(format, words + 2, count - 2, hex, &change);
+    if (status == DONE) {
+        path = realpath(words[1], NULL);
+        if (path == NULL) {
+            fprintf(stderr, "edit: %s: %s\n", words[1], strerror(errno));
+            status = FAILED;
+        } else {
+            status = change_file(words[1], path, format, &change, size);
+        }
+        free(path);
     }
-    path = realpath(words[1], NULL);
-    if (path == NULL) {
-        fprintf(stderr, "edit: %s: %s\n", words[1], strerror(errno));
-        free(value.bytes);
-        return FAILED;
-    }
-    status = edit(words[1], path, format, entry, &value, size);
-    free(path);
-    free(value.bytes);
+    free(change.bytes.bytes);
     return status;
 }

@@ -43,4 +43,31 @@ static inline void expect_count(uint64_t answer, uint32_t count, const char *wha
     expect_answer(answer, outcome, what);
 }
 
+/*
+ * What this edition answers to a case: the first of the two answers before the edition that brought
+ * something new to the format, and the second from it on. To formats 1 to 3 that is edition 2, with
+ * more names; format 4 came with edition 3, so that its first answer is 16.
+ */
+static inline struct outcome outcome_of(uint32_t format, const struct outcome by_edition[2])
+{
+    return by_edition[BOARDID_EDITION >= (format == 4 ? 3 : 2)];
+}
+
+/* Expects that an output holds an image, FFh after it, or nothing new where it was refused. */
+static inline void expect_output(struct lent out, struct outcome outcome, const char *hex,
+                                 const char *what)
+{
+    struct lent image = lend_hex(hex);
+
+    if (outcome.number != 0) {
+        expect(all_are(out, 0, 0x5A), what);
+    } else {
+        expect_number(image.length, outcome.count, what);
+        expect(image.length <= out.length && memcmp(out.bytes, image.bytes, image.length) == 0,
+               what);
+        expect(all_are(out, image.length, 0xFF), what);
+    }
+    give_back(image);
+}
+
 #endif

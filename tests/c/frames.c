@@ -6,14 +6,15 @@
  *
  * Places and lengths of frames are counted by hand from the bytes beside them. Every image goes
  * through list, entry and step, by the functions of the header and by the exported calls with each
- * edition that has its format, and so does what every such edition edits.
+ * edition that has its format, and so does what every such edition edits, adds and removes.
  */
 #define _DEFAULT_SOURCE
 
 #include "answers.h"
 #include "checks.h"
+#include "images.h"
 
-enum { NEWEST = 4, MOST_ENTRIES = 12, MOST_PARTS = 5, FRAME_WORD = 7 };
+enum { NEWEST = 4, MOST_ENTRIES = 13, MOST_PARTS = 5, FRAME_WORD = 7 };
 
 /* A frame: the place of its first byte, and its length. */
 struct frame {
@@ -103,40 +104,54 @@ static struct lent lend_image(const struct image_case *c)
 
 /* ---- Images --------------------------------------------------------------------------------- */
 
-#define ONIE "54 6C 76 49 6E 66 6F 00 01 "
-
-/* Eight entries of FBOSS, the sixth unnamed. */
-#define FBOSS_EIGHT \
-    {"FB FB 05 FF 08 01 FE 01 02 41 42 09 01 02 0A 01 03 0B 00 15 02 00 FF 14 08 02 1A 2B 3C 4D " \
-     "5E 01 02 0D 08 32 30 32 34 30 32 32 39 FA 02 00 00", 0}
+/* Images that are listed, and changed under other words. Eight entries of FBOSS, the sixth unnamed. */
+#define FBOSS_EIGHT(what) \
+    {what, 1, \
+     {{"FB FB 05 FF 08 01 FE 01 02 41 42 09 01 02 0A 01 03 0B 00 15 02 00 FF 14 08 02 1A 2B 3C 4D " \
+       "5E 01 02 0D 08 32 30 32 34 30 32 32 39 FA 02 00 00", 0}}, \
+     {8, {{4, 3}, {7, 4}, {11, 3}, {14, 3}, {17, 2}, {19, 4}, {23, 10}, {33, 10}}, 43}}
 
 /* VPD: both lengths in one to four bytes, and an FEh without a key. */
-#define VPD_FORMS \
-    {"01 01 41 02 78 79 01 01 42 80 02 78 79 01 01 43 80 80 02 78 79 01 01 44 80 80 80 02 78 79 " \
-     "01 80 01 45 02 78 79 01 80 80 01 46 80 02 78 79 01 80 80 80 01 47 80 80 80 02 78 79 " \
-     "FE 80 00 80 80 04 01 02 03 04 FF AA 01", 0}
+#define VPD_FORMS(what) \
+    {what, 2, \
+     {{"01 01 41 02 78 79 01 01 42 80 02 78 79 01 01 43 80 80 02 78 79 01 01 44 80 80 80 02 78 79 " \
+       "01 80 01 45 02 78 79 01 80 80 01 46 80 02 78 79 01 80 80 80 01 47 80 80 80 02 78 79 " \
+       "FE 80 00 80 80 04 01 02 03 04 FF AA 01", 0}}, \
+     {8, {{0, 6}, {6, 7}, {13, 8}, {21, 9}, {30, 7}, {37, 9}, {46, 12}, {58, 10}}, 68}}
 
 /* VPD: values of 16,383 and twice 16,384 bytes, their lengths in two, three and four. */
-#define VPD_LONG \
-    {"01 01 41 FF 7F", 16383}, {"01 01 42 81 80 00", 16384}, {"01 01 43 80 81 80 00", 16384}, \
-        {"00", 0}
+#define VPD_LONG(what) \
+    {what, 2, \
+     {{"01 01 41 FF 7F", 16383}, {"01 01 42 81 80 00", 16384}, {"01 01 43 80 81 80 00", 16384}, \
+      {"00", 0}}, \
+     {3, {{0, 16388}, {16388, 16390}, {32778, 16391}}, 49169}}
 
 /* Seven entries of Tiny; the fifth is unnamed, with a byte for its length, as the pool's. */
-#define TINY_SEVEN \
-    {"56 02 28 10 01 11 F5 60 02 1A 2B 3C 4D 5E 61 00 01 80 05 41 31 02 01 AA 81 00 01 99 63 00 " \
-     "FF 0F 27 01 04 41 C2 C3 44 00", 0}
+#define TINY_SEVEN(what) \
+    {what, 3, \
+     {{"56 02 28 10 01 11 F5 60 02 1A 2B 3C 4D 5E 61 00 01 80 05 41 31 02 01 AA 81 00 01 99 63 00 " \
+       "FF 0F 27 01 04 41 C2 C3 44 00", 0}}, \
+     {7, {{3, 2}, {5, 2}, {7, 7}, {14, 7}, {21, 3}, {24, 9}, {33, 6}}, 39}}
 
 /* Twelve entries of ONIE, the sixth unnamed, the last two FDh. */
-#define ONIE_TWELVE \
-    {ONIE "00 4B 21 02 41 42 22 00 23 02 53 31 24 06 02 1A 2B 3C 4D 5E 25 13 30 32 2F 30 33 2F 32 " \
-     "30 32 34 20 30 34 3A 30 35 3A 30 36 26 01 01 2A 02 FF 03 2B 01 4D 2C 02 43 5A 2D 01 56 " \
-     "FD 05 00 00 1F 79 00 FD 04 00 00 1F 79 FE 04 00 00 00 00", 0}
+#define ONIE_TWELVE(what) \
+    {what, 4, \
+     {{ONIE "00 4B 21 02 41 42 22 00 23 02 53 31 24 06 02 1A 2B 3C 4D 5E 25 13 30 32 2F 30 33 2F " \
+       "32 30 32 34 20 30 34 3A 30 35 3A 30 36 26 01 01 2A 02 FF 03 2B 01 4D 2C 02 43 5A 2D 01 56 " \
+       "FD 05 00 00 1F 79 00 FD 04 00 00 1F 79 FE 04 00 00 00 00", 0}}, \
+     {12, \
+      {{11, 4}, {15, 2}, {17, 4}, {21, 8}, {29, 21}, {50, 3}, {53, 4}, {57, 3}, {60, 4}, {64, 3}, \
+       {67, 7}, {74, 6}}, \
+      80}}
+
+/* One entry of VPD, and images without entries. */
+#define VPD_SKU(what) {what, 2, {{"01 03 53 4B 55 02 41 37 00", 0}}, {1, {{0, 8}}, 8}}
+#define VPD_NONE(what) {what, 2, {{"00", 0}}, {0, {{0, 0}}, 0}}
+#define TINY_NONE(what) {what, 3, {{"56 02 04 6F", 0}}, {0, {{0, 0}}, 3}}
+#define ONIE_NONE(what) {what, 4, {{ONIE "00 06 FE 04 D4 43 1C 18", 0}}, {0, {{0, 0}}, 11}}
 
 static const struct image_case image_cases[] = {
-    {"FBOSS: eight entries",
-     1,
-     {FBOSS_EIGHT},
-     {8, {{4, 3}, {7, 4}, {11, 3}, {14, 3}, {17, 2}, {19, 4}, {23, 10}, {33, 10}}, 43}},
+    FBOSS_EIGHT("FBOSS: eight entries"),
     {"FBOSS: values of 255 bytes, and bytes after the end",
      1,
      {{"FB FB 05 FF 01 FF", 255},
@@ -144,17 +159,14 @@ static const struct image_case image_cases[] = {
       {"FA 02 00 00 0B 00 FA 02", 0}},
      {6, {{4, 257}, {261, 3}, {264, 3}, {267, 3}, {270, 2}, {272, 257}}, 529}},
 
-    {"VPD: no entries", 2, {{"00", 0}}, {0, {{0, 0}}, 0}},
-    {"VPD: SKU", 2, {{"01 03 53 4B 55 02 41 37 00", 0}}, {1, {{0, 8}}, 8}},
+    VPD_NONE("VPD: no entries"),
+    VPD_SKU("VPD: SKU"),
     {"VPD: a leading zero group", 2, {{"01 80 01 41 00 00", 0}}, {1, {{0, 5}}, 5}},
     {"VPD: lengths of four bytes",
      2,
      {{"01 80 80 80 01 41 80 80 80 02 41 37 00", 0}},
      {1, {{0, 12}}, 12}},
-    {"VPD: lengths of one to four bytes",
-     2,
-     {VPD_FORMS},
-     {8, {{0, 6}, {6, 7}, {13, 8}, {21, 9}, {30, 7}, {37, 9}, {46, 12}, {58, 10}}, 68}},
+    VPD_FORMS("VPD: lengths of one to four bytes"),
     {"VPD: 127 bytes, in one length byte and in two",
      2,
      {{"01 01 41 7F", 127}, {"01 01 42 80 7F", 127}, {"00", 0}},
@@ -170,10 +182,7 @@ static const struct image_case image_cases[] = {
      2,
      {{"01 81 02", 130}, {"00 01 80 81 03", 131}, {"81 00", 128}, {"00", 0}},
      {2, {{0, 134}, {134, 265}}, 399}},
-    {"VPD: lengths of two, three and four bytes",
-     2,
-     {VPD_LONG},
-     {3, {{0, 16388}, {16388, 16390}, {32778, 16391}}, 49169}},
+    VPD_LONG("VPD: lengths of two, three and four bytes"),
     {"VPD: the longest frame",
      2,
      {{"01 01 41 83 FF 79", 65529}, {"00", 0}},
@@ -183,28 +192,16 @@ static const struct image_case image_cases[] = {
      {{"01 01 41 80 83 FF 78", 65528}, {"FF", 0}},
      {1, {{0, 65535}}, 65535}},
 
-    {"Tiny: no entries", 3, {{"56 02 04 6F", 0}}, {0, {{0, 0}}, 3}},
-    {"Tiny: seven entries",
-     3,
-     {TINY_SEVEN},
-     {7, {{3, 2}, {5, 2}, {7, 7}, {14, 7}, {21, 3}, {24, 9}, {33, 6}}, 39}},
+    TINY_NONE("Tiny: no entries"),
+    TINY_SEVEN("Tiny: seven entries"),
     {"Tiny: fifteen bytes by the tag, none and a hundred by a byte, and an empty pool",
      3,
      {{"56 02 7E F2", 15}, {"02 00 05 64", 100}, {"01 00 00 FF 10", 0}},
      {4, {{3, 16}, {19, 2}, {21, 102}, {123, 2}}, 125}},
     {"Tiny: the longest pool", 3, {{"56 02 FF 01 F9", 249}, {"00", 0}}, {1, {{3, 251}}, 254}},
 
-    {"ONIE: no entries",
-     4,
-     {{ONIE "00 06 FE 04 D4 43 1C 18", 0}},
-     {0, {{0, 0}}, 11}},
-    {"ONIE: twelve entries",
-     4,
-     {ONIE_TWELVE},
-     {12,
-      {{11, 4}, {15, 2}, {17, 4}, {21, 8}, {29, 21}, {50, 3}, {53, 4}, {57, 3}, {60, 4}, {64, 3},
-       {67, 7}, {74, 6}},
-      80}},
+    ONIE_NONE("ONIE: no entries"),
+    ONIE_TWELVE("ONIE: twelve entries"),
     {"ONIE: values of 255 bytes, and bytes after the end",
      4,
      {{ONIE "02 0A 21 FF", 255}, {"FD FF", 255}, {"63 00 FE 04 00 00 00 00 21 00 FE 04", 0}},
@@ -423,103 +420,64 @@ struct edit_case {
 };
 
 static const struct edit_case edit_cases[] = {
-    {{"FBOSS: a name to 255 bytes",
-      1,
-      {FBOSS_EIGHT},
-      {8, {{4, 3}, {7, 4}, {11, 3}, {14, 3}, {17, 2}, {19, 4}, {23, 10}, {33, 10}}, 43}},
+    {FBOSS_EIGHT("FBOSS: a name to 255 bytes"),
      1,
      1,
      {"", 255},
      {8, {{4, 3}, {7, 257}, {264, 3}, {267, 3}, {270, 2}, {272, 4}, {276, 10}, {286, 10}}, 296}},
-    {{"FBOSS: 20 to another address",
-      1,
-      {FBOSS_EIGHT},
-      {8, {{4, 3}, {7, 4}, {11, 3}, {14, 3}, {17, 2}, {19, 4}, {23, 10}, {33, 10}}, 43}},
+    {FBOSS_EIGHT("FBOSS: 20 to another address"),
      2,
      6,
      {"02 1A 2B 3C 4D 5F 00 01", 0},
      {8, {{4, 3}, {7, 4}, {11, 3}, {14, 3}, {17, 2}, {19, 4}, {23, 10}, {33, 10}}, 43}},
-    {{"VPD: two lengths of four bytes, the value's to one",
-      2,
-      {VPD_FORMS},
-      {8, {{0, 6}, {6, 7}, {13, 8}, {21, 9}, {30, 7}, {37, 9}, {46, 12}, {58, 10}}, 68}},
+    {VPD_FORMS("VPD: two lengths of four bytes, the value's to one"),
      1,
      6,
      {"42", 0},
      {8, {{0, 6}, {6, 7}, {13, 8}, {21, 9}, {30, 7}, {37, 9}, {46, 8}, {54, 10}}, 64}},
-    {{"VPD: the value that is there, its length in four bytes",
-      2,
-      {VPD_FORMS},
-      {8, {{0, 6}, {6, 7}, {13, 8}, {21, 9}, {30, 7}, {37, 9}, {46, 12}, {58, 10}}, 68}},
+    {VPD_FORMS("VPD: the value that is there, its length in four bytes"),
      1,
      3,
      {"78 79", 0},
      {8, {{0, 6}, {6, 7}, {13, 8}, {21, 6}, {27, 7}, {34, 9}, {43, 12}, {55, 10}}, 65}},
-    {{"VPD: a value to none",
-      2,
-      {VPD_FORMS},
-      {8, {{0, 6}, {6, 7}, {13, 8}, {21, 9}, {30, 7}, {37, 9}, {46, 12}, {58, 10}}, 68}},
+    {VPD_FORMS("VPD: a value to none"),
      1,
      3,
      {"", 0},
      {8, {{0, 6}, {6, 7}, {13, 8}, {21, 4}, {25, 7}, {32, 9}, {41, 12}, {53, 10}}, 63}},
-    {{"VPD: a value to 128 bytes",
-      2,
-      {VPD_FORMS},
-      {8, {{0, 6}, {6, 7}, {13, 8}, {21, 9}, {30, 7}, {37, 9}, {46, 12}, {58, 10}}, 68}},
+    {VPD_FORMS("VPD: a value to 128 bytes"),
      1,
      0,
      {"", 128},
      {8,
       {{0, 133}, {133, 7}, {140, 8}, {148, 9}, {157, 7}, {164, 9}, {173, 12}, {185, 10}},
       195}},
-    {{"VPD: FEh",
-      2,
-      {VPD_FORMS},
-      {8, {{0, 6}, {6, 7}, {13, 8}, {21, 9}, {30, 7}, {37, 9}, {46, 12}, {58, 10}}, 68}},
+    {VPD_FORMS("VPD: FEh"),
      2,
      7,
      {"05 06 07 08", 0},
      {8, {{0, 6}, {6, 7}, {13, 8}, {21, 9}, {30, 7}, {37, 9}, {46, 12}, {58, 8}}, 66}},
-    {{"VPD: 16,383 bytes to 16,384",
-      2,
-      {VPD_LONG},
-      {3, {{0, 16388}, {16388, 16390}, {32778, 16391}}, 49169}},
+    {VPD_LONG("VPD: 16,383 bytes to 16,384"),
      1,
      0,
      {"", 16384},
      {3, {{0, 16390}, {16390, 16390}, {32780, 16391}}, 49171}},
-    {{"VPD: 16,384 bytes to 16,384, their length from four bytes to three",
-      2,
-      {VPD_LONG},
-      {3, {{0, 16388}, {16388, 16390}, {32778, 16391}}, 49169}},
+    {VPD_LONG("VPD: 16,384 bytes to 16,384, their length from four bytes to three"),
      1,
      2,
      {"", 16384},
      {3, {{0, 16388}, {16388, 16390}, {32778, 16390}}, 49168}},
-    {{"Tiny: a pool to eight bytes",
-      3,
-      {TINY_SEVEN},
-      {7, {{3, 2}, {5, 2}, {7, 7}, {14, 7}, {21, 3}, {24, 9}, {33, 6}}, 39}},
+    {TINY_SEVEN("Tiny: a pool to eight bytes"),
      1,
      6,
      {"", 8},
      {7, {{3, 2}, {5, 2}, {7, 7}, {14, 7}, {21, 3}, {24, 9}, {33, 10}}, 43}},
-    {{"Tiny: a pool to none",
-      3,
-      {TINY_SEVEN},
-      {7, {{3, 2}, {5, 2}, {7, 7}, {14, 7}, {21, 3}, {24, 9}, {33, 6}}, 39}},
+    {TINY_SEVEN("Tiny: a pool to none"),
      1,
      6,
      {"", 0},
      {7, {{3, 2}, {5, 2}, {7, 7}, {14, 7}, {21, 3}, {24, 9}, {33, 2}}, 35}},
-    {{"ONIE: a name to none",
-      4,
-      {ONIE_TWELVE},
-      {12,
-       {{11, 4}, {15, 2}, {17, 4}, {21, 8}, {29, 21}, {50, 3}, {53, 4}, {57, 3}, {60, 4}, {64, 3},
-        {67, 7}, {74, 6}},
-       80}},
+    {ONIE_TWELVE("ONIE: a name to none"),
      3,
      0,
      {"", 0},
@@ -527,13 +485,7 @@ static const struct edit_case edit_cases[] = {
       {{11, 2}, {13, 2}, {15, 4}, {19, 8}, {27, 21}, {48, 3}, {51, 4}, {55, 3}, {58, 4}, {62, 3},
        {65, 7}, {72, 6}},
       78}},
-    {{"ONIE: FDh to 255 bytes",
-      4,
-      {ONIE_TWELVE},
-      {12,
-       {{11, 4}, {15, 2}, {17, 4}, {21, 8}, {29, 21}, {50, 3}, {53, 4}, {57, 3}, {60, 4}, {64, 3},
-        {67, 7}, {74, 6}},
-       80}},
+    {ONIE_TWELVE("ONIE: FDh to 255 bytes"),
      3,
      10,
      {"", 255},
@@ -543,32 +495,32 @@ static const struct edit_case edit_cases[] = {
       330}},
 };
 
-/* What an edition edits: the frames of the whole output, and of its part up to the length given. */
-static void edited_by(uint32_t edition, const struct edit_case *c, struct lent image,
-                      struct lent value)
+/*
+ * What an edition made of an image: the frames of the whole output, and of its part up to the length
+ * given. Every frame that was kept has the bytes that it had; frame n is an edited one where more is
+ * 0, a new one where it is 1, and one that is gone where it is -1.
+ */
+static void expect_made(const struct image_case *before, struct lent image, struct lent out,
+                        const struct frames *after, uint32_t n, int more)
 {
-    const char *what = c->before.what;
-    uint32_t format = c->before.format, length = c->after.end + end_length(format), k;
-    struct lent out = lend(length + 100), part;
+    struct lent part = lend_copy(out.bytes, after->end + end_length(before->format));
+    uint32_t k;
 
-    expect_count(boardid_edit(format, edition, image.bytes, image.length, c->n, value.bytes,
-                              value.length, out.bytes, out.length),
-                 length, what);
-    part = lend_copy(out.bytes, length);
-    expect_frames(format, out, &c->after, what);
-    expect_frames(format, part, &c->after, what);
+    expect_frames(before->format, out, after, before->what);
+    expect_frames(before->format, part, after, before->what);
+    expect(all_are(out, part.length, 0xFF), before->what);
+    expect(after->count + (more < 0) == before->frames.count + (more > 0), before->what);
+    for (k = 0; k < before->frames.count; k++) {
+        if (k != n || more > 0) {
+            struct frame old = before->frames.list[k];
+            struct frame now = after->list[k + (more > 0 && k >= n) - (more < 0 && k > n)];
 
-    /* Every other frame has the bytes that it had. */
-    for (k = 0; k < c->after.count; k++) {
-        struct frame old = c->before.frames.list[k], now = c->after.list[k];
-
-        expect(k == c->n || (old.length == now.length &&
-                             memcmp(image.bytes + old.place, part.bytes + now.place,
-                                    now.length) == 0),
-               what);
+            expect(old.length == now.length && memcmp(image.bytes + old.place,
+                                                      part.bytes + now.place, now.length) == 0,
+                   before->what);
+        }
     }
     give_back(part);
-    give_back(out);
 }
 
 static void edits(void)
@@ -579,12 +531,168 @@ static void edits(void)
     for (i = 0; i < sizeof edit_cases / sizeof edit_cases[0]; i++) {
         const struct edit_case *c = &edit_cases[i];
         struct lent image = lend_image(&c->before), value = lend_bytes(&c->value, 1);
+        uint32_t length = c->after.end + end_length(c->before.format);
 
         expect_frames(c->before.format, image, &c->before.frames, c->before.what);
         for (edition = c->since; edition <= NEWEST; edition++) {
-            edited_by(edition, c, image, value);
+            struct lent out = lend(length + 100);
+
+            expect_count(boardid_edit(c->before.format, edition, image.bytes, image.length, c->n,
+                                      value.bytes, value.length, out.bytes, out.length),
+                         length, c->before.what);
+            expect_made(&c->before, image, out, &c->after, c->n, 0);
+            give_back(out);
         }
         give_back(value);
+        give_back(image);
+    }
+}
+
+/* ---- Additions and removals ----------------------------------------------------------------- */
+
+/* An addition by every edition from one on: the field, the number of its entry, and the frames. */
+struct add_case {
+    struct image_case before;
+    uint32_t since;
+    uint32_t code;
+    struct bytes key;
+    struct bytes value;
+    uint32_t n;
+    struct frames after;
+};
+
+static const struct add_case add_cases[] = {
+    {FBOSS_EIGHT("FBOSS: 12 comes"), 1, 12, {"", 0}, {"51 43 54", 0}, 8,
+     {9, {{4, 3}, {7, 4}, {11, 3}, {14, 3}, {17, 2}, {19, 4}, {23, 10}, {33, 10}, {43, 5}}, 48}},
+    {FBOSS_EIGHT("FBOSS: 17 comes"), 2, 17, {"", 0}, {"02 1A 2B 3C 4D 5E 00 01", 0}, 8,
+     {9, {{4, 3}, {7, 4}, {11, 3}, {14, 3}, {17, 2}, {19, 4}, {23, 10}, {33, 10}, {43, 10}}, 53}},
+    {VPD_NONE("VPD: to no entries"), 1, 1, {"4B", 0}, {"", 0}, 0, {1, {{0, 4}}, 4}},
+    {VPD_SKU("VPD: FEh comes"), 2, 0xFE, {"", 0}, {"01 02 03 04", 0}, 1,
+     {2, {{0, 8}, {8, 7}}, 15}},
+    {VPD_FORMS("VPD: 127 bytes come"), 1, 1, {"4B", 0}, {"", 127}, 8,
+     {9,
+      {{0, 6}, {6, 7}, {13, 8}, {21, 9}, {30, 7}, {37, 9}, {46, 12}, {58, 10}, {68, 131}},
+      199}},
+    {VPD_FORMS("VPD: 128 bytes come"), 1, 1, {"4B", 0}, {"", 128}, 8,
+     {9,
+      {{0, 6}, {6, 7}, {13, 8}, {21, 9}, {30, 7}, {37, 9}, {46, 12}, {58, 10}, {68, 133}},
+      201}},
+    {VPD_FORMS("VPD: a key of 130 bytes comes"), 1, 1, {"4B", 129}, {"", 0}, 8,
+     {9,
+      {{0, 6}, {6, 7}, {13, 8}, {21, 9}, {30, 7}, {37, 9}, {46, 12}, {58, 10}, {68, 134}},
+      202}},
+    {VPD_LONG("VPD: 16,300 bytes come"), 1, 1, {"4B", 0}, {"", 16300}, 3,
+     {4, {{0, 16388}, {16388, 16390}, {32778, 16391}, {49169, 16305}}, 65474}},
+    {TINY_NONE("Tiny: the longest pool comes"), 1, 1, {"", 0}, {"", 249}, 0,
+     {1, {{3, 251}}, 254}},
+    {TINY_SEVEN("Tiny: 62h comes before the pool"), 1, 0x62, {"", 0}, {"00 01 00 00 00 00", 0}, 6,
+     {8, {{3, 2}, {5, 2}, {7, 7}, {14, 7}, {21, 3}, {24, 9}, {33, 7}, {40, 6}}, 46}},
+    {TINY_SEVEN("Tiny: 80h comes before the pool"), 2, 0x80, {"", 0},
+     {"00 01 00 00 00 00 0F 27", 0}, 6,
+     {8, {{3, 2}, {5, 2}, {7, 7}, {14, 7}, {21, 3}, {24, 9}, {33, 9}, {42, 6}}, 48}},
+    {ONIE_NONE("ONIE: 255 bytes come"), 3, 0x21, {"", 0}, {"", 255}, 0, {1, {{11, 257}}, 268}},
+    {ONIE_TWELVE("ONIE: a third FDh comes"), 3, 0xFD, {"", 0}, {"00 00 1F 79", 0}, 12,
+     {13,
+      {{11, 4}, {15, 2}, {17, 4}, {21, 8}, {29, 21}, {50, 3}, {53, 4}, {57, 3}, {60, 4}, {64, 3},
+       {67, 7}, {74, 6}, {80, 6}},
+      86}},
+};
+
+static void adds(void)
+{
+    size_t i;
+    uint32_t edition;
+
+    for (i = 0; i < sizeof add_cases / sizeof add_cases[0]; i++) {
+        const struct add_case *c = &add_cases[i];
+        struct lent image = lend_image(&c->before), key = lend_bytes(&c->key, 1), values;
+        struct lent field = lend(BOARDID_FIELD_SIZE);
+        uint32_t length = c->after.end + end_length(c->before.format);
+        struct boardid_field whole = {0, 0, 0, 0, 0};
+        struct bytes parts[2];
+
+        parts[0] = c->key;
+        parts[1] = c->value;
+        values = lend_bytes(parts, 2);
+        whole.code = c->code;
+        whole.key_length = whole.value_place = (uint32_t)key.length;
+        whole.value_length = (uint32_t)(values.length - key.length);
+        boardid_field_set(field.bytes, 0, whole);
+        for (edition = c->since; edition <= NEWEST; edition++) {
+            struct lent out = lend(length + 20);
+
+            expect_count(boardid_add(c->before.format, edition, image.bytes, image.length,
+                                     field.bytes, field.length, values.bytes, values.length,
+                                     out.bytes, out.length),
+                         length, c->before.what);
+            expect_made(&c->before, image, out, &c->after, c->n, 1);
+            give_back(out);
+        }
+        give_back(field);
+        give_back(values);
+        give_back(key);
+        give_back(image);
+    }
+}
+
+/* A removal of entry n by every edition from one on, and the frames. */
+struct remove_case {
+    struct image_case before;
+    uint32_t since;
+    uint32_t n;
+    struct frames after;
+};
+
+static const struct remove_case remove_cases[] = {
+    {FBOSS_EIGHT("FBOSS: 20 goes"), 2, 6,
+     {7, {{4, 3}, {7, 4}, {11, 3}, {14, 3}, {17, 2}, {19, 4}, {23, 10}}, 33}},
+    {FBOSS_EIGHT("FBOSS: 13 goes"), 1, 7,
+     {7, {{4, 3}, {7, 4}, {11, 3}, {14, 3}, {17, 2}, {19, 4}, {23, 10}}, 33}},
+    {VPD_SKU("VPD: the only one goes"), 1, 0, {0, {{0, 0}}, 0}},
+    {VPD_FORMS("VPD: the first goes"), 1, 0,
+     {7, {{0, 7}, {7, 8}, {15, 9}, {24, 7}, {31, 9}, {40, 12}, {52, 10}}, 62}},
+    {VPD_FORMS("VPD: one with lengths of four bytes goes"), 1, 6,
+     {7, {{0, 6}, {6, 7}, {13, 8}, {21, 9}, {30, 7}, {37, 9}, {46, 10}}, 56}},
+    {VPD_FORMS("VPD: FEh goes"), 2, 7,
+     {7, {{0, 6}, {6, 7}, {13, 8}, {21, 9}, {30, 7}, {37, 9}, {46, 12}}, 58}},
+    {VPD_LONG("VPD: 16,384 bytes go"), 1, 1, {2, {{0, 16388}, {16388, 16391}}, 32779}},
+    {TINY_SEVEN("Tiny: 60h goes"), 1, 2,
+     {6, {{3, 2}, {5, 2}, {7, 7}, {14, 3}, {17, 9}, {26, 6}}, 32}},
+    {TINY_SEVEN("Tiny: 81h goes"), 2, 5,
+     {6, {{3, 2}, {5, 2}, {7, 7}, {14, 7}, {21, 3}, {24, 6}}, 30}},
+    {TINY_SEVEN("Tiny: the pool goes"), 1, 6,
+     {6, {{3, 2}, {5, 2}, {7, 7}, {14, 7}, {21, 3}, {24, 9}}, 33}},
+    {ONIE_TWELVE("ONIE: 25h goes"), 3, 4,
+     {11,
+      {{11, 4}, {15, 2}, {17, 4}, {21, 8}, {29, 3}, {32, 4}, {36, 3}, {39, 4}, {43, 3}, {46, 7},
+       {53, 6}},
+      59}},
+    {ONIE_TWELVE("ONIE: the first FDh goes"), 3, 10,
+     {11,
+      {{11, 4}, {15, 2}, {17, 4}, {21, 8}, {29, 21}, {50, 3}, {53, 4}, {57, 3}, {60, 4}, {64, 3},
+       {67, 6}},
+      73}},
+};
+
+static void removes(void)
+{
+    size_t i;
+    uint32_t edition;
+
+    for (i = 0; i < sizeof remove_cases / sizeof remove_cases[0]; i++) {
+        const struct remove_case *c = &remove_cases[i];
+        struct lent image = lend_image(&c->before);
+        uint32_t length = c->after.end + end_length(c->before.format);
+
+        for (edition = c->since; edition <= NEWEST; edition++) {
+            struct lent out = lend(length + 100);
+
+            expect_count(boardid_remove(c->before.format, edition, image.bytes, image.length, c->n,
+                                        out.bytes, out.length),
+                         length, c->before.what);
+            expect_made(&c->before, image, out, &c->after, c->n, -1);
+            give_back(out);
+        }
         give_back(image);
     }
 }
@@ -642,6 +750,12 @@ static void unknown_edition(uint32_t format, uint32_t edition, struct lent image
                    what);
     expect_refused(boardid_edit(format, edition, image.bytes, image.length, 0, NULL, 0, lent.bytes,
                                 lent.length),
+                   1, 0, what);
+    expect_refused(boardid_add(format, edition, image.bytes, image.length, NULL, 0, NULL, 0,
+                               lent.bytes, lent.length),
+                   1, 0, what);
+    expect_refused(boardid_remove(format, edition, image.bytes, image.length, 0, lent.bytes,
+                                  lent.length),
                    1, 0, what);
 #if BOARDID_EDITION >= 3
     {
@@ -719,6 +833,8 @@ int main(void)
     images();
     editions_of_a_walk();
     edits();
+    adds();
+    removes();
     written();
     unknown_editions();
     same_names();
