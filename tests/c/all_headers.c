@@ -9,6 +9,7 @@ typedef uint32_t of_first_entry(uint32_t format, const uint8_t *image, size_t le
 of_first_entry kind_by_edition_1, kind_by_edition_2, kind_by_edition_3, kind_by_edition_4;
 of_first_entry date_by_edition_1, date_by_edition_2, date_by_edition_3, date_by_edition_4;
 of_first_entry frame_by_edition_1, frame_by_edition_2, frame_by_edition_3, frame_by_edition_4;
+of_first_entry moved_by_edition_1, moved_by_edition_2, moved_by_edition_3, moved_by_edition_4;
 
 enum {
     EDITIONS = 4,
@@ -21,8 +22,13 @@ static of_first_entry *const dates[EDITIONS] = {date_by_edition_1, date_by_editi
                                                 date_by_edition_3, date_by_edition_4};
 static of_first_entry *const frames[EDITIONS] = {frame_by_edition_1, frame_by_edition_2,
                                                  frame_by_edition_3, frame_by_edition_4};
+static of_first_entry *const moves[EDITIONS] = {moved_by_edition_1, moved_by_edition_2,
+                                                moved_by_edition_3, moved_by_edition_4};
 
-/* An image, and the kind, the date and the frame of its first entry by each edition. */
+/*
+ * An image; the kind, the date and the frame of its first entry by each edition; and the length of
+ * the image after the entry was removed and added again.
+ */
 struct image_case {
     const char *what;
     uint32_t format;
@@ -30,6 +36,7 @@ struct image_case {
     uint32_t kinds[EDITIONS];
     uint32_t dates[EDITIONS];
     uint32_t frames[EDITIONS];
+    uint32_t moves[EDITIONS];
 };
 
 static const struct image_case image_cases[] = {
@@ -38,36 +45,56 @@ static const struct image_case image_cases[] = {
      "FE 00 04 01 02 03 04 00",
      {0, 766, 766, 766},
      {0, 0, 0, 0},
-     {0, 0, 0, 7}},
+     {0, 0, 0, 7},
+     {14 * REFUSED, 8, 8, 8}},
     {"VPD 01h, lengths of two and three bytes",
      2,
      "01 80 03 53 4B 55 80 80 02 41 37 FF",
      {513, 513, 513, 513},
      {0, 0, 0, 0},
-     {0, 0, 0, 11}},
+     {0, 0, 0, 11},
+     {9, 9, 9, 9}},
     {"Tiny: a pool",
      3,
      "56 02 0A 01 04 41 C2 C3 44 82",
      {769, 769, 769, 769},
      {0, 0, 0, 0},
-     {0, 0, 0, 6}},
+     {0, 0, 0, 6},
+     {10, 10, 10, 10}},
     {"ONIE 21h",
      4,
      "54 6C 76 49 6E 66 6F 00 01 00 08 21 00 FE 04 9C 9F B5 F2",
      {16 * REFUSED, 16 * REFUSED, 1057, 1057},
      {16 * REFUSED, 16 * REFUSED, 0, 0},
-     {16 * REFUSED, 16 * REFUSED, 0, 2}},
+     {16 * REFUSED, 16 * REFUSED, 0, 2},
+     {16 * REFUSED, 16 * REFUSED, 19, 19}},
     {"FBOSS 13",
      1,
      "FB FB 05 FF 0D 08 32 30 32 34 30 32 32 39 01 00 08 01 01 09 01 02 0A 01 03 0B 00 FA 02 0D E1",
      {269, 269, 269, 269},
      {20240229, 20240229, 20240229, 20240229},
-     {0, 0, 0, 10}},
+     {0, 0, 0, 10},
+     {31, 31, 31, 31}},
     {"FBOSS 13, no day",
      1,
      "FB FB 05 FF 0D 08 32 30 32 33 30 32 32 39 01 00 08 01 01 09 01 02 0A 01 03 0B 00 FA 02 FD 34",
      {7 * REFUSED, 7 * REFUSED, 7 * REFUSED, 7 * REFUSED},
      {7 * REFUSED, 7 * REFUSED, 7 * REFUSED, 7 * REFUSED},
+     {7 * REFUSED, 7 * REFUSED, 7 * REFUSED, 7 * REFUSED},
+     {7 * REFUSED, 7 * REFUSED, 7 * REFUSED, 7 * REFUSED}},
+    {"FBOSS 1, required",
+     1,
+     "FB FB 05 FF 01 00 08 01 01 09 01 02 0A 01 03 0B 00 FA 02 82 1E",
+     {257, 257, 257, 257},
+     {0, 0, 0, 0},
+     {0, 0, 0, 2},
+     {11 * REFUSED, 11 * REFUSED, 11 * REFUSED, 11 * REFUSED}},
+    {"VPD 01h, a dotted key",
+     2,
+     "01 03 61 2E 62 00 00",
+     {513, 513, 513, 513},
+     {0, 0, 0, 0},
+     {0, 0, 0, 6},
      {7 * REFUSED, 7 * REFUSED, 7 * REFUSED, 7 * REFUSED}},
     {"ONIE 25h",
      4,
@@ -75,7 +102,8 @@ static const struct image_case image_cases[] = {
      "39 FE 04 9E C5 75 CD",
      {16 * REFUSED, 16 * REFUSED, 1061, 1061},
      {16 * REFUSED, 16 * REFUSED, 20241231, 20241231},
-     {16 * REFUSED, 16 * REFUSED, 0, 21}},
+     {16 * REFUSED, 16 * REFUSED, 0, 21},
+     {16 * REFUSED, 16 * REFUSED, 38, 38}},
 };
 
 int main(void)
@@ -90,6 +118,7 @@ int main(void)
             expect_number(kinds[e](c->format, image.bytes, image.length), c->kinds[e], c->what);
             expect_number(dates[e](c->format, image.bytes, image.length), c->dates[e], c->what);
             expect_number(frames[e](c->format, image.bytes, image.length), c->frames[e], c->what);
+            expect_number(moves[e](c->format, image.bytes, image.length), c->moves[e], c->what);
         }
         give_back(image);
     }

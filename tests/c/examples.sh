@@ -192,6 +192,120 @@ echo '# edit by edition 3'
 run edit-3 vpd names.vpd 2 C3
 run list vpd names.vpd
 
+echo '# edit: add and remove'
+for name in board.vpd names.vpd frames.vpd fboss.bin tiny.bin onie.bin; do
+    cp "$samples/$name" "my_$name"
+done
+chmod 640 my_board.vpd
+run edit vpd my_board.vpd add 1 note 'rack 7, 2nd from top'
+run edit -x vpd my_board.vpd add 0x01 mac2 02:1a:2b:3c:4d:5e
+run list vpd my_board.vpd
+run stat -c '%a %s' my_board.vpd
+run edit vpd my_board.vpd remove 4
+run edit vpd my_board.vpd remove 0
+run edit -x vpd my_board.vpd add 254 '' 00000080
+run list vpd my_board.vpd
+run edit vpd my_names.vpd add 1 rack -3
+run edit vpd my_names.vpd remove 1
+run list vpd my_names.vpd
+run edit -s 235 vpd my_frames.vpd add 1 x ''
+run edit vpd my_frames.vpd remove 0
+run list vpd my_frames.vpd
+run bytes my_frames.vpd
+run edit fboss my_fboss.bin remove 16
+run edit fboss my_fboss.bin remove 1
+run edit -x fboss my_fboss.bin add 17 '02 1A 2B 3C 4D 5E 00 10'
+run list fboss my_fboss.bin
+run edit tiny my_tiny.bin remove 2
+run edit -x tiny my_tiny.bin add 0x60 02:1a:2b:3c:4d:60
+run list tiny my_tiny.bin
+run edit tiny my_tiny.bin remove 7
+run list tiny my_tiny.bin
+run edit -x tiny my_tiny.bin add 1 53:b9:50:b8
+run list tiny my_tiny.bin
+run edit onie my_onie.bin remove 11
+run edit -x onie my_onie.bin add 0xFD '00 00 1F 79'
+run edit -x onie my_onie.bin add 0xfd '00 00 1F 79'
+run edit onie my_onie.bin add 0x2D Works
+run list onie my_onie.bin
+printf '\x01\x01A\x00\xFF' >last.vpd
+run edit vpd last.vpd remove 0
+run bytes last.vpd
+ln -s last.vpd my_link.vpd
+run edit -s 8 vpd my_link.vpd add 1 B ''
+run readlink my_link.vpd
+run bytes last.vpd
+
+echo '# edit: add and remove, refusals and failures; nothing is changed and nothing left behind'
+before=$(echo *)
+for name in my_*; do
+    cp -p "$name" "before_$name"
+done
+run edit vpd my_board.vpd add 1 lab.rack x
+run edit vpd my_names.vpd add 1 lab.rack x
+run edit vpd my_board.vpd add 1 '' x
+run edit vpd my_board.vpd add 1 mac2 x
+run edit -x vpd my_board.vpd add 0xFE other 00000080
+run edit -x vpd my_board.vpd add 0xFE other 000080
+run edit vpd my_board.vpd add 2 note x
+run edit vpd my_board.vpd add 257 note x
+run edit vpd my_board.vpd add 1 key 'longer than the file has room for, whose size stays'
+run edit vpd my_board.vpd remove 9
+run edit vpd my_board.vpd remove 18446744073709551615
+run edit -s 7 vpd my_board.vpd remove 0
+run edit fboss my_fboss.bin remove 0
+run edit -x fboss my_fboss.bin add 18 0000000000000000
+run edit fboss my_fboss.bin add 13 20230229
+run edit fboss my_fboss.bin add 99 x
+run edit tiny my_tiny.bin remove 9
+run edit -x tiny my_tiny.bin add 1 41
+run edit onie my_onie.bin remove 5
+run edit onie my_onie.bin add 0x26 x
+run edit-2 onie my_onie.bin remove 0
+run edit fboss no_day.fboss remove 5
+run edit vpd twice.vpd add 1 B x
+run edit vpd same_name.vpd remove 1
+run edit vpd long.vpd remove 0
+run edit vpd missing.vpd remove 0
+run edit vpd . add 1 note x
+run edit vpd my_board.vpd add 1 note
+run edit vpd my_board.vpd add 1
+run edit vpd my_board.vpd add
+run edit fboss my_fboss.bin add 12 note x
+run edit vpd my_board.vpd add one note x
+run edit vpd my_board.vpd add 4294967296 note x
+run edit vpd my_board.vpd add 0x100000000 note x
+run edit vpd my_board.vpd add 0x note x
+run edit vpd my_board.vpd add 0x1g note x
+run edit -x vpd my_board.vpd add 1 note 0g
+run edit vpd my_board.vpd remove
+run edit vpd my_board.vpd remove one
+run edit vpd my_board.vpd remove 0 0
+run edit vpd my_board.vpd drop 0
+for name in my_*; do
+    run cmp "$name" "before_$name"
+    rm "before_$name"
+done
+[ "$(echo *)" = "$before" ] && echo 'the folder is as before'
+
+echo '# edit: add and remove by edition 1: what it does not name is neither added nor removed, and stays'
+run edit-1 vpd my_board.vpd remove 4
+run edit-1 -x vpd my_names.vpd add 0xFE '' 00000080
+run edit-1 vpd my_board.vpd add 1 by_edition_1 y
+run edit-1 vpd my_board.vpd remove 0
+run list vpd my_board.vpd
+run list-1 vpd my_board.vpd
+run edit-1 -x fboss my_fboss.bin add 17 0000000000000000
+run edit-1 fboss my_fboss.bin remove 15
+run edit-1 fboss my_fboss.bin add 2 PN-2
+run list fboss my_fboss.bin
+run edit-1 tiny my_tiny.bin remove 1
+run edit-1 -x tiny my_tiny.bin add 0x11 0f
+run list tiny my_tiny.bin
+run edit-2 fboss my_fboss.bin remove 16
+run edit-3 onie my_onie.bin remove 0
+run list onie my_onie.bin
+
 echo '# vendor'
 cp "$samples/onie.bin" example.bin
 run vendor example.bin

@@ -1,8 +1,9 @@
 /*
- * Three functions of a program that has the headers of all editions: compiled once with each
- * edition's header, under the names that KIND, DATE and FRAME are defined as. They give the kind of
- * the first entry of an image; its date as the number YYYYMMDD, which is 0 where its reading is no
- * date; and the length of its frame, or what an edition before 4 has in its place. Where the call is
+ * Four functions of a program that has the headers of all editions: compiled once with each
+ * edition's header, under the names that KIND, DATE, FRAME and MOVED are defined as. They give the
+ * kind of the first entry of an image; its date as the number YYYYMMDD, which is 0 where its reading
+ * is no date; the length of its frame, or what an edition before 4 has in its place; and the length
+ * of the image, at most 64 bytes, after the entry was removed and added again. Where a call is
  * refused, all give the refusal's number times 100,000,000.
  */
 #include <boardid.h>
@@ -10,6 +11,7 @@
 uint32_t KIND(uint32_t format, const uint8_t *image, size_t length);
 uint32_t DATE(uint32_t format, const uint8_t *image, size_t length);
 uint32_t FRAME(uint32_t format, const uint8_t *image, size_t length);
+uint32_t MOVED(uint32_t format, const uint8_t *image, size_t length);
 
 /* The first entry of an image, and the number of the refusal. */
 static uint32_t first_entry(uint32_t format, const uint8_t *image, size_t length,
@@ -49,4 +51,29 @@ uint32_t FRAME(uint32_t format, const uint8_t *image, size_t length)
 #else
     return number != 0 ? number * 100000000 : record.reserved;
 #endif
+}
+
+uint32_t MOVED(uint32_t format, const uint8_t *image, size_t length)
+{
+    struct boardid_record record;
+    struct boardid_field field = {0, 0, 0, 0, 0};
+    uint8_t removed[64], added[64], bytes[BOARDID_FIELD_SIZE];
+    uint64_t answer;
+
+    first_entry(format, image, length, &record);
+    field.code = record.code;
+    field.key_place = record.key_place;
+    field.key_length = record.key_length;
+    field.value_place = record.value_place;
+    field.value_length = record.value_length;
+    boardid_field_set(bytes, 0, field);
+    answer = boardid_remove_entry(format, image, length, 0, removed, sizeof removed);
+    if (boardid_answer_number(answer) == 0) {
+        answer = boardid_add_field(format, removed, sizeof removed, bytes, sizeof bytes, image,
+                                   length, added, sizeof added);
+    }
+    if (boardid_answer_number(answer) != 0) {
+        return boardid_answer_number(answer) * 100000000;
+    }
+    return boardid_answer_count(answer);
 }

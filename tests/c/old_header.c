@@ -9,9 +9,10 @@
  *     old_header list FOLDER        expects this edition's kinds and readings, and writes what every
  *                                   edition that has the format must list alike (codes, keys, values)
  *                                   to a file for each image, FOLDER/NAME-N.list in edition N
- *     old_header edit FOLDER        edits each entry that this edition names, each into a file
- *     old_header read FOLDER N      reads what edition N edited, and expects that only that one
- *                                   value is changed
+ *     old_header change FOLDER      edits and removes each entry, and adds each field, that this
+ *                                   edition names, each into a file
+ *     old_header read FOLDER N      reads what edition N edited, removed and added, and expects that
+ *                                   only that one value is changed, that one entry gone or new
  */
 #define _DEFAULT_SOURCE
 
@@ -19,7 +20,7 @@
 
 #include "expect.h"
 
-enum { MOST_ENTRIES = 12 };
+enum { MOST_ENTRIES = 13, MOST_FIELDS = 5 };
 
 /*
  * One entry: its code, the first edition that names it (0: none does), how it is read where it is
@@ -32,7 +33,19 @@ struct entry_case {
     const char *value;
 };
 
-/* An image: its format with the first edition that has it, its bytes and its entries. */
+/*
+ * One field to add: its code, the first edition that names it (0: none does), its key and its value,
+ * and the number with which editions that name it refuse it here, or 0.
+ */
+struct field_case {
+    uint32_t code;
+    uint32_t since;
+    const char *key;
+    const char *value;
+    uint32_t refused;
+};
+
+/* An image: its format with the first edition that has it, its bytes, its entries, new fields. */
 struct image_case {
     const char *name;
     uint32_t format;
@@ -40,6 +53,8 @@ struct image_case {
     const char *image;
     uint32_t count;
     struct entry_case entries[MOST_ENTRIES];
+    uint32_t field_count;
+    struct field_case fields[MOST_FIELDS];
 };
 
 static const struct image_case images[] = {
@@ -62,7 +77,31 @@ static const struct image_case images[] = {
       {19, 2, 3, "00 00 00 00 00 00 00 00"},
       {20, 2, 3, "02 1A 2B 3C 4D 8E 00 02"},
       {13, 1, 8, "32 30 32 34 30 32 30 31"},
-      {21, 0, 0, ""}}},
+      {21, 0, 0, ""}},
+     4,
+     {{12, 1, "", "51 43 54", 0},
+      {2, 1, "", "", 0},
+      {17, 2, "", "02 1A 2B 3C 4D 5E 00 11", 8},
+      {99, 0, "", "", 0}}},
+    {"fboss_short",
+     BOARDID_FORMAT_FBOSS,
+     1,
+     "FB FB 05 FF 01 01 41 08 01 01 09 01 02 12 08 02 1A 2B 3C 4D 6E 00 01 0A 01 03 63 02 00 FF "
+     "0B 00 FA 02 CC 15 FA 02",
+     7,
+     {{1, 1, 1, ""},
+      {8, 1, 2, "FF"},
+      {9, 1, 2, "00"},
+      {18, 2, 3, "FF FF FF FF FF FF FF FF"},
+      {10, 1, 2, "63"},
+      {99, 0, 0, "00"},
+      {11, 1, 1, "53"}},
+     5,
+     {{13, 1, "", "32 30 32 34 30 32 32 39", 0},
+      {13, 1, "", "32 30 32 33 30 32 32 39", 7},
+      {17, 2, "", "02 1A 2B 3C 4D 5E 00 10", 0},
+      {20, 2, "", "00 00 00 00 00 00 00 00", 0},
+      {18, 2, "", "00 00 00 00 00 00 00 00", 8}}},
     {"vpd",
      BOARDID_FORMAT_VPD,
      1,
@@ -72,7 +111,23 @@ static const struct image_case images[] = {
      {{0x01, 1, 0, "42"},
       {0xFE, 2, 0, "00 00 00 2A"},
       {0x01, 1, 0, "39 38 37 36 35 34 33 32 31"},
-      {0x01, 1, 0, ""}}},
+      {0x01, 1, 0, ""}},
+     4,
+     {{0x01, 1, "6E 6F 74 65", "68 69", 0},
+      {0x01, 1, "73 65 72 69 61 6C", "31", 8},
+      {0xFE, 2, "", "00 00 00 2A", 8},
+      {0x02, 0, "41", "", 0}}},
+    {"vpd_short",
+     BOARDID_FORMAT_VPD,
+     1,
+     "01 80 03 53 4B 55 80 80 02 41 37 01 08 6C 61 62 2E 72 61 63 6B 01 58 01 01 41 80 00 FF AA",
+     3,
+     {{0x01, 1, 0, "42"}, {0x01, 1, 0, ""}, {0x01, 1, 0, "00 FF 22"}},
+     4,
+     {{0x01, 1, "72 61 63 6B", "", 0},
+      {0xFE, 2, "", "00 00 00 2A", 0},
+      {0xFE, 2, "6C 61 62 2E 72 61 63 6B", "2A 00 00 00", 0},
+      {0x01, 1, "6C 61 62 2E 72 61 63 6B", "", 7}}},
     {"names",
      BOARDID_FORMAT_VPD,
      1,
@@ -82,7 +137,11 @@ static const struct image_case images[] = {
      {{0x01, 1, 0, "42"},
       {0xFE, 2, 0, "00 00 00 2A"},
       {0x01, 1, 0, "00 FF 22"},
-      {0x01, 1, 0, ""}}},
+      {0x01, 1, 0, ""}},
+     3,
+     {{0x01, 1, "72 61 63 6B", "00 22", 0},
+      {0x01, 1, "6C 61 62 2E 72 61 63 6B", "", 7},
+      {0xFE, 2, "41", "00 00 00 2A", 8}}},
     {"tiny",
      BOARDID_FORMAT_TINY,
      1,
@@ -99,7 +158,28 @@ static const struct image_case images[] = {
       {0x62, 1, 6, "07 07 80 00 00 00"},
       {0x60, 1, 3, "00 00 00 00 00 01"},
       {0x02, 0, 0, "01"},
-      {0x01, 1, 0, "53 32 B2 50 4E 33 B3 C1"}}},
+      {0x01, 1, 0, "53 32 B2 50 4E 33 B3 C1"}},
+     4,
+     {{0x10, 1, "", "00", 8},
+      {0x80, 2, "", "00 00 00 00 00 00 00 00", 8},
+      {0x01, 1, "", "", 8},
+      {0x03, 0, "", "", 0}}},
+    {"tiny_short",
+     BOARDID_FORMAT_TINY,
+     1,
+     "56 02 1B 80 00 01 80 05 41 31 2A 00 23 AA BB 10 00 02 00 01 05 53 B1 50 4E B2 28 00 11",
+     5,
+     {{0x80, 2, 7, "01 00 00 00 00 FF 00 00"},
+      {0x23, 0, 0, "00 00"},
+      {0x10, 1, 4, "01"},
+      {0x02, 0, 0, "01"},
+      {0x01, 1, 0, ""}},
+     5,
+     {{0x60, 1, "", "02 1A 2B 3C 4D 5E", 0},
+      {0x11, 1, "", "FF", 0},
+      {0x81, 2, "", "00 01 99 63 42 32 0F 27", 0},
+      {0x81, 2, "", "00 01 9A 63 42 32 0F 27", 7},
+      {0x01, 1, "", "53 B1", 8}}},
     {"onie",
      4, /* BOARDID_FORMAT_ONIE, which the headers of editions 1 and 2 do not have */
      3,
@@ -119,7 +199,13 @@ static const struct image_case images[] = {
       {0x28, 0, 0, "78"},
       {0xFD, 3, 0, "FF FF FF FF 00 01 02 03 04 05 06 07 08 09"},
       {0x2D, 3, 1, "56"},
-      {0x23, 3, 1, ""}}},
+      {0x23, 3, 1, ""}},
+     5,
+     {{0x22, 3, "", "50 4E 31", 0},
+      {0x2B, 3, "", "", 0},
+      {0xFD, 3, "", "00 00 1F 79 00 01", 0},
+      {0x21, 3, "", "4C", 8},
+      {0x27, 0, "", "01", 0}}},
 };
 
 enum { IMAGES = sizeof images / sizeof images[0] };
@@ -130,10 +216,16 @@ static int has(uint32_t edition, const struct image_case *c)
     return c->since <= edition;
 }
 
-/* Whether an edition names an entry of the cases. */
-static int names(uint32_t edition, const struct entry_case *entry)
+/* Whether an edition names a code that one, or none, was the first to name. */
+static int names(uint32_t edition, uint32_t since)
 {
-    return entry->since != 0 && entry->since <= edition;
+    return since != 0 && since <= edition;
+}
+
+/* Whether an image must have a code. */
+static int required(uint32_t format, uint32_t code)
+{
+    return format == BOARDID_FORMAT_FBOSS && (code == 1 || (code >= 8 && code <= 11));
 }
 
 /* The length of an entry's whole frame, which ends with its value. */
@@ -206,6 +298,12 @@ static void expect_refused_whole(const struct image_case *c, struct lent image)
                      c->name);
     expect_no_format(boardid_edit_entry(c->format, image.bytes, image.length, 0, NULL, 0,
                                         lent.bytes, lent.length),
+                     c->name);
+    expect_no_format(boardid_add_field(c->format, image.bytes, image.length, NULL, 0, NULL, 0,
+                                       lent.bytes, lent.length),
+                     c->name);
+    expect_no_format(boardid_remove_entry(c->format, image.bytes, image.length, 0, lent.bytes,
+                                          lent.length),
                      c->name);
     expect(all_are(lent, 0, 0x5A), c->name);
     give_back(walk);
@@ -325,7 +423,7 @@ static void list_all(const char *folder)
             struct boardid_record record = boardid_record_at(list.records, n);
 
             expect_number(record.code, entry->code, c->name);
-            if (names(BOARDID_EDITION, entry)) {
+            if (names(BOARDID_EDITION, entry->since)) {
                 expect_number(record.kind, BOARDID_KIND(c->format, entry->code), c->name);
                 expect_number(record.reading, entry->reading, c->name);
                 expect_date(c, image, record);
@@ -346,10 +444,91 @@ static void list_all(const char *folder)
     }
 }
 
-/* Edits each entry that this edition names; expects 14 and no change for every other. */
-static void edit_all(const char *folder)
+/* The number and the place of a refusal that is expected; 0 and 0 where none is. */
+struct refusal {
+    uint32_t number;
+    uint32_t place;
+};
+
+/*
+ * What a change put out: the whole output and its part up to the length given go into files of a
+ * kind. A refused one, which is to be as expected, left the output as it was.
+ */
+static void store(const char *folder, const struct image_case *c, uint32_t number, const char *kind,
+                  uint64_t answer, struct lent out, struct refusal refusal)
 {
-    uint32_t i, n;
+    char image_kind[32];
+
+    expect_number(boardid_answer_number(answer), refusal.number, c->name);
+    expect_number(boardid_answer_place(answer), refusal.place, c->name);
+    if (refusal.number != 0) {
+        expect(all_are(out, 0, 0x5A), c->name);
+        return;
+    }
+    snprintf(image_kind, sizeof image_kind, "%s_image", kind);
+    write_file(path_in(folder, c->name, number, kind), out.bytes, out.length);
+    write_file(path_in(folder, c->name, number, image_kind), out.bytes,
+               boardid_answer_count(answer));
+}
+
+/* Edits entry n and removes it. */
+static void change_entry(const char *folder, const struct image_case *c, struct lent image,
+                         uint32_t n, uint32_t place)
+{
+    const struct entry_case *entry = &c->entries[n];
+    struct lent value = lend_hex(entry->value), edited = lend(image.length + 20);
+    struct lent removed = lend(image.length + 20);
+    struct refusal none = {0, 0}, not_named = {BOARDID_REFUSED_NOT_NAMED, 0};
+    struct refusal missing = {BOARDID_REFUSED_MISSING, 0};
+    int named = names(BOARDID_EDITION, entry->since);
+
+    not_named.place = place;
+    store(folder, c, n, "edited",
+          boardid_edit_entry(c->format, image.bytes, image.length, n, value.bytes, value.length,
+                             edited.bytes, edited.length),
+          edited, named ? none : not_named);
+    store(folder, c, n, "removed",
+          boardid_remove_entry(c->format, image.bytes, image.length, n, removed.bytes,
+                               removed.length),
+          removed, !named ? not_named : required(c->format, entry->code) ? missing : none);
+    give_back(removed);
+    give_back(edited);
+    give_back(value);
+}
+
+/* Adds field k of a case. */
+static void add_field(const char *folder, const struct image_case *c, struct lent image, uint32_t k)
+{
+    const struct field_case *field = &c->fields[k];
+    struct lent key = lend_hex(field->key), value = lend_hex(field->value);
+    struct lent values = lend(key.length + value.length), bytes = lend(BOARDID_FIELD_SIZE);
+    struct lent out = lend(image.length + 40);
+    struct boardid_field whole = {0, 0, 0, 0, 0};
+    struct refusal refusal = {0, 0};
+
+    memcpy(values.bytes, key.bytes, key.length);
+    memcpy(values.bytes + key.length, value.bytes, value.length);
+    whole.code = field->code;
+    whole.key_length = whole.value_place = (uint32_t)key.length;
+    whole.value_length = (uint32_t)value.length;
+    boardid_field_set(bytes.bytes, 0, whole);
+    refusal.number = names(BOARDID_EDITION, field->since) ? field->refused
+                                                          : BOARDID_REFUSED_NOT_NAMED;
+    store(folder, c, k, "added",
+          boardid_add_field(c->format, image.bytes, image.length, bytes.bytes, bytes.length,
+                            values.bytes, values.length, out.bytes, out.length),
+          out, refusal);
+    give_back(out);
+    give_back(bytes);
+    give_back(values);
+    give_back(value);
+    give_back(key);
+}
+
+/* Edits and removes each entry, and adds each field, that this edition names. */
+static void change_all(const char *folder)
+{
+    uint32_t i, n, k;
 
     for (i = 0; i < IMAGES; i++) {
         const struct image_case *c = &images[i];
@@ -363,93 +542,149 @@ static void edit_all(const char *folder)
         }
         list = list_of(c, image);
         for (n = 0; n < c->count; n++) {
-            struct lent value = lend_hex(c->entries[n].value), out = lend(image.length + 20);
-            uint64_t answer = boardid_edit_entry(c->format, image.bytes, image.length, n,
-                                                 value.bytes, value.length, out.bytes, out.length);
-
-            if (names(BOARDID_EDITION, &c->entries[n])) {
-                expect_number(boardid_answer_number(answer), 0, c->name);
-                write_file(path_in(folder, c->name, n, "whole"), out.bytes, out.length);
-                write_file(path_in(folder, c->name, n, "image"), out.bytes,
-                           boardid_answer_count(answer));
-            } else {
-                expect_number(boardid_answer_number(answer), BOARDID_REFUSED_NOT_NAMED, c->name);
-                expect_number(boardid_answer_place(answer),
-                              boardid_record_at(list.records, n).place, c->name);
-                expect(all_are(out, 0, 0x5A), c->name);
-            }
-            give_back(out);
-            give_back(value);
+            change_entry(folder, c, image, n, boardid_record_at(list.records, n).place);
+        }
+        for (k = 0; k < c->field_count; k++) {
+            add_field(folder, c, image, k);
         }
         give_back(image);
     }
 }
 
-/* Expects that an edited image is listed as the old one, with the value of entry n replaced. */
-static void expect_one_change(const struct image_case *c, struct lent image, struct lent edited,
-                              uint32_t n, struct lent value)
+/*
+ * One change of an image: entry n has another value where more is 0, is new where it is 1, and is
+ * gone where it is -1. Key and value are those of an entry that is new, or the new value.
+ */
+struct change {
+    uint32_t n;
+    int more;
+    uint32_t code;
+    const char *key;
+    const char *value;
+};
+
+/* Expects that a record has a code, a key and a value. */
+static void expect_entry(const struct image_case *c, struct lent image, struct boardid_record record,
+                         const struct change *change)
 {
-    struct list old = list_of(c, image), now = list_of(c, edited);
-    uint32_t k;
+    struct lent key = lend_hex(change->key), value = lend_hex(change->value);
 
-    expect_number(now.count, c->count, c->name);
-    for (k = 0; k < c->count && k < now.count; k++) {
-        struct boardid_record a = boardid_record_at(old.records, k);
-        struct boardid_record b = boardid_record_at(now.records, k);
+    expect_number(record.code, change->code, c->name);
+    expect(same_part(key, 0, (uint32_t)key.length, image, record.key_place, record.key_length),
+           c->name);
+    expect(same_part(value, 0, (uint32_t)value.length, image, record.value_place,
+                     record.value_length),
+           c->name);
+    give_back(value);
+    give_back(key);
+}
 
+/* Expects that a changed image is listed as the old one, with that change and no other. */
+static void expect_one_change(const struct image_case *c, struct lent image, struct lent changed,
+                              const struct change *change)
+{
+    struct list old = list_of(c, image), now = list_of(c, changed);
+    uint32_t k, n = change->n, wanted = c->count + (change->more > 0) - (change->more < 0);
+
+    expect_number(now.count, wanted, c->name);
+    if (now.count != wanted) {
+        return;
+    }
+    for (k = 0; k < c->count; k++) {
+        const uint32_t at = k + (change->more > 0 && k >= n) - (change->more < 0 && k > n);
+        struct boardid_record a = boardid_record_at(old.records, k), b;
+
+        if (k == n && change->more < 0) {
+            continue;
+        }
+        b = boardid_record_at(now.records, at);
         expect_number(b.code, a.code, c->name);
         expect_number(b.kind, a.kind, c->name);
         expect_number(b.reading, a.reading, c->name);
-        expect_date(c, edited, b);
-        expect(same_part(image, a.key_place, a.key_length, edited, b.key_place, b.key_length),
+        expect_date(c, changed, b);
+        expect(same_part(image, a.key_place, a.key_length, changed, b.key_place, b.key_length),
                c->name);
-        if (k == n) {
+        if (k == n && change->more == 0) {
+            struct lent value = lend_hex(change->value);
+
             /* In VPD all before the value's length is the same: type, key's length bytes, key. */
             if (c->format == BOARDID_FORMAT_VPD) {
-                expect(same_part(image, a.place, a.key_place + a.key_length - a.place, edited,
+                expect(same_part(image, a.place, a.key_place + a.key_length - a.place, changed,
                                  b.place, b.key_place + b.key_length - b.place),
                        c->name);
             }
-            expect(same_part(value, 0, (uint32_t)value.length, edited, b.value_place,
+            expect(same_part(value, 0, (uint32_t)value.length, changed, b.value_place,
                              b.value_length),
                    c->name);
+            give_back(value);
         } else {
             /* The whole frame is the same, from its first byte to the last of its value. */
-            expect(same_part(image, a.place, frame_of(&a), edited, b.place, frame_of(&b)), c->name);
+            expect(same_part(image, a.place, frame_of(&a), changed, b.place, frame_of(&b)),
+                   c->name);
             expect(memcmp(a.carried, b.carried, sizeof a.carried) == 0, c->name);
         }
     }
+    if (change->more > 0) {
+        expect_entry(c, changed, boardid_record_at(now.records, n), change);
+    }
 }
 
-/* Reads what another edition edited. */
+/* Reads what another edition put into the files of a kind. */
+static void read_change(const char *folder, const struct image_case *c, uint32_t number,
+                        const char *kind, const struct change *change)
+{
+    char image_kind[32];
+    struct lent image = lend_hex(c->image), whole, part;
+
+    snprintf(image_kind, sizeof image_kind, "%s_image", kind);
+    whole = read_file(path_in(folder, c->name, number, kind));
+    part = read_file(path_in(folder, c->name, number, image_kind));
+    if (has(BOARDID_EDITION, c)) {
+        expect_one_change(c, image, whole, change);
+        expect_one_change(c, image, part, change);
+    } else {
+        expect_refused_whole(c, whole);
+        expect_refused_whole(c, part);
+    }
+    expect(all_are(whole, part.length, 0xFF), c->name);
+    give_back(part);
+    give_back(whole);
+    give_back(image);
+}
+
+/* Reads what another edition edited, removed and added. */
 static void read_all(const char *folder, uint32_t editor)
 {
-    uint32_t i, n;
+    uint32_t i, n, k;
 
     for (i = 0; i < IMAGES; i++) {
         const struct image_case *c = &images[i];
-        struct lent image = lend_hex(c->image);
+        const uint32_t last = c->entries[c->count - 1].code;
+        struct change change = {0, 0, 0, "", ""};
 
         for (n = 0; n < c->count; n++) {
-            if (names(editor, &c->entries[n])) {
-                struct lent value = lend_hex(c->entries[n].value);
-                struct lent whole = read_file(path_in(folder, c->name, n, "whole"));
-                struct lent part = read_file(path_in(folder, c->name, n, "image"));
-
-                if (has(BOARDID_EDITION, c)) {
-                    expect_one_change(c, image, whole, n, value);
-                    expect_one_change(c, image, part, n, value);
-                } else {
-                    expect_refused_whole(c, whole);
-                    expect_refused_whole(c, part);
+            if (names(editor, c->entries[n].since)) {
+                change.n = n;
+                change.more = 0;
+                change.value = c->entries[n].value;
+                read_change(folder, c, n, "edited", &change);
+                change.more = -1;
+                if (!required(c->format, c->entries[n].code)) {
+                    read_change(folder, c, n, "removed", &change);
                 }
-                expect(all_are(whole, part.length, 0xFF), c->name);
-                give_back(part);
-                give_back(whole);
-                give_back(value);
             }
         }
-        give_back(image);
+        /* A new entry is the last, in Tiny the last before the pool. */
+        change.n = c->count - (c->format == BOARDID_FORMAT_TINY && last == 0x01);
+        change.more = 1;
+        for (k = 0; k < c->field_count; k++) {
+            if (names(editor, c->fields[k].since) && c->fields[k].refused == 0) {
+                change.code = c->fields[k].code;
+                change.key = c->fields[k].key;
+                change.value = c->fields[k].value;
+                read_change(folder, c, k, "added", &change);
+            }
+        }
     }
 }
 
@@ -457,12 +692,12 @@ int main(int argc, char **argv)
 {
     if (argc == 3 && strcmp(argv[1], "list") == 0) {
         list_all(argv[2]);
-    } else if (argc == 3 && strcmp(argv[1], "edit") == 0) {
-        edit_all(argv[2]);
+    } else if (argc == 3 && strcmp(argv[1], "change") == 0) {
+        change_all(argv[2]);
     } else if (argc == 4 && strcmp(argv[1], "read") == 0) {
         read_all(argv[2], (uint32_t)strtoul(argv[3], NULL, 10));
     } else {
-        fprintf(stderr, "usage: old_header list|edit FOLDER, or old_header read FOLDER EDITION\n");
+        fprintf(stderr, "usage: old_header list|change FOLDER, or old_header read FOLDER EDITION\n");
         return 2;
     }
     return expectations_met("old_header");

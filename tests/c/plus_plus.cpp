@@ -52,6 +52,20 @@ int main()
     good = good && boardid_answer_count(answer) == 8;
     good = good && std::memcmp(edited, wanted, sizeof edited) == 0;
 
+    static const uint8_t both[] = {1, 3, 'S', 'K', 'U', 1, 'B', 1, 1, 'K', 1, 'U', 0, 0xFF};
+    static const uint8_t left[] = {1, 1, 'K', 1, 'U', 0, 0xFF, 0xFF};
+    uint8_t added[14], removed[8];
+    const boardid_field more = {BOARDID_VPD_STRING, 1, 1, 2, 1};
+    boardid_field_set(field, 0, more);
+    answer = boardid_add_field(BOARDID_FORMAT_VPD, edited, sizeof edited, field, sizeof field,
+                               values, sizeof values, added, sizeof added);
+    good = good && boardid_answer_count(answer) == 13;
+    good = good && std::memcmp(added, both, sizeof added) == 0;
+    answer = boardid_remove_entry(BOARDID_FORMAT_VPD, added, sizeof added, 0, removed,
+                                  sizeof removed);
+    good = good && boardid_answer_count(answer) == 6;
+    good = good && std::memcmp(removed, left, sizeof removed) == 0;
+
     good = good && boardid_record_number(&entry) == 0;
     good = good && boardid_record_address_base(&entry) == 0;
     good = good && boardid_record_address_count(&entry) == 0;

@@ -68,7 +68,7 @@ old_and_new() {
     for editor in "${editions[@]}"; do
         mkdir -p "$folder/files/$editor" || return 1
         "$folder/old_header-$editor" list "$folder/files" || return 1
-        "$folder/old_header-$editor" edit "$folder/files/$editor" || return 1
+        "$folder/old_header-$editor" change "$folder/files/$editor" || return 1
     done
     for editor in "${editions[@]}"; do
         for list in "$folder/files/"*"-$editor.list"; do
@@ -85,7 +85,7 @@ all_headers() {
     local folder=$1 edition parts=()
     for edition in "${editions[@]}"; do
         "$cc" -std=c99 "${warnings[@]}" "${flags[@]}" "-Iinclude/edition-$edition" "-DKIND=kind_by_edition_$edition" "-DDATE=date_by_edition_$edition" \
-            "-DFRAME=frame_by_edition_$edition" -c -o "$folder/first-$edition.o" tests/c/first_entry.c || return 1
+            "-DFRAME=frame_by_edition_$edition" "-DMOVED=moved_by_edition_$edition" -c -o "$folder/first-$edition.o" tests/c/first_entry.c || return 1
         parts+=("$folder/first-$edition.o")
     done
     "$cc" -std=c99 "${warnings[@]}" "${flags[@]}" -o "$folder/all_headers" tests/c/all_headers.c "${parts[@]}" "$lib" "${more[@]}" &&
@@ -140,7 +140,7 @@ compiler() {
         folder=$room/$cc-$flavour
         mkdir -p "$folder"
         for edition in "${editions[@]}"; do
-            names=(layouts calls frames dates before_dates)
+            names=(layouts calls changes frames dates before_dates)
             [ "$edition" -lt 3 ] || names+=(vendor)
             for name in "${names[@]}" old_header; do
                 try "$cc, $flavour: $name compiled with edition $edition" program "$folder/$name-$edition" "$edition" "tests/c/$name.c"
@@ -188,7 +188,8 @@ typedef char itself[BOARDID_EDITION == $edition ? 1 : -1];"
 #include \"edition-$other/boardid.h\""
         done
     done
-    brought_by 1 BOARDID_READING_DATE 'sizeof(struct boardid_date)' boardid_record_date
+    brought_by 1 BOARDID_READING_DATE 'sizeof(struct boardid_date)' boardid_record_date boardid_add boardid_remove \
+        boardid_add_field boardid_remove_entry
     brought_by 2 BOARDID_FBOSS_X86_CPU_MAC_ADDRESSES BOARDID_FBOSS_BMC_MAC_ADDRESSES BOARDID_FBOSS_SWITCH_ASIC_MAC_ADDRESSES \
         BOARDID_FBOSS_META_RESERVED_MAC_ADDRESSES BOARDID_VPD_INFO BOARDID_TINY_PRODUCT_IDENTITY_BATCH \
         BOARDID_TINY_SYSTEM_PRODUCT_IDENTITY_BATCH BOARDID_READING_IDENTITY_WITH_BATCH boardid_record_batch
@@ -260,7 +261,7 @@ made_headers() {
 
 # exported_calls EDITION: the exported calls that an edition may make, and no other, are declared in its header and defined in the library.
 exported_calls() {
-    local name names=(check list entry value string step write edit)
+    local name names=(check list entry value string step write edit add remove)
     [ "$1" -lt 3 ] || names+=(vendor_read vendor_write)
     nm -g --defined-only "$lib" >"$room/nm" 2>"$room/nm.errors"
     for name in "${names[@]}"; do
