@@ -1,8 +1,8 @@
 /*
- * Every call that all editions have, but for those that add and remove, through a header's
- * functions, on the cases of the scope document and of docs/DECISIONS.md (their numbers, as D13,
- * stand beside them). Compiled once with each edition's header. All lent memory ends at a page that
- * may not be touched.
+ * Every call that all editions have, through a header's functions, on the cases of the scope
+ * document and of docs/DECISIONS.md (their numbers, as D13, stand beside them). Compiled once with
+ * each edition's header. All lent memory ends at a page that may not be touched. Additions and
+ * removals are here beside the other calls on the same images; changes.c has their own cases.
  *
  * Format 4, ONIE, is a number here: the headers of editions 1 and 2 have no name for it.
  */
@@ -512,6 +512,11 @@ static void refused_alike(uint32_t format, struct lent image, struct outcome out
     expect_answer(boardid_edit_entry(format, image.bytes, image.length, 5, value, sizeof value,
                                      out.bytes, out.length),
                   outcome, what);
+    expect_answer(boardid_add_field(format, image.bytes, image.length, NULL, 0, value, sizeof value,
+                                    out.bytes, out.length),
+                  outcome, what);
+    expect_answer(boardid_remove_entry(format, image.bytes, image.length, 5, out.bytes, out.length),
+                  outcome, what);
     expect(all_are(records, 0, 0x5A), what);
     expect(all_are(out, 0, 0x5A), what);
     give_back(walk);
@@ -539,6 +544,70 @@ static void record_holds(uint32_t format, struct boardid_record record, const ch
     for (i = 0; i < 7; i++) {
         expect(record.reading >= BOARDID_READING_NUMBER || record.carried[i] == 0, what);
     }
+}
+
+/*
+ * Entry n of an accepted image is removed, unless it is required or has no name, and is added again
+ * to what is left, unless its key is one that no write makes. To the image itself it is not added,
+ * but where it is an FDh.
+ */
+static void one_entry_moved(uint32_t format, struct lent image, uint32_t n,
+                            struct boardid_record record, const char *what)
+{
+    const uint32_t count = boardid_answer_count(boardid_check_image(format, image.bytes,
+                                                                    image.length));
+    const uint32_t frame = record.value_place + record.value_length - record.place;
+    const int required = format == 1 && (record.code == 1 ||
+                                         (record.code >= 8 && record.code <= 11));
+    const int key = format != 2 || record.code != 1 ||
+                    of_alphabet(image.bytes + record.key_place, record.key_length);
+    const int again = format == 4 && record.code == 0xFD;
+    struct lent less = lend(image.length), more = lend(image.length + frame);
+    struct lent field = lend(BOARDID_FIELD_SIZE);
+    struct boardid_field whole;
+    uint64_t answer;
+
+    whole.code = record.code;
+    whole.key_place = record.key_place;
+    whole.key_length = record.key_length;
+    whole.value_place = record.value_place;
+    whole.value_length = record.value_length;
+    boardid_field_set(field.bytes, 0, whole);
+    answer = boardid_add_field(format, image.bytes, image.length, field.bytes, field.length,
+                               image.bytes, image.length, more.bytes, more.length);
+    if (again) {
+        expect_number(boardid_answer_number(answer), 0, what);
+        expect_count(boardid_check_image(format, more.bytes, more.length), count + 1, what);
+    } else {
+        expect_refused(answer, record.kind == 0 ? 14 : key ? 8 : 7, 0, what);
+        expect(all_are(more, 0, 0x5A), what);
+    }
+
+    answer = boardid_remove_entry(format, image.bytes, image.length, n, less.bytes, less.length);
+    if (record.kind == 0 || required) {
+        expect_refused(answer, required ? 11 : 14, required ? 0 : record.place, what);
+        expect(all_are(less, 0, 0x5A), what);
+    } else {
+        expect_number(boardid_answer_number(answer), 0, what);
+        expect(boardid_answer_count(answer) + frame <= image.length, what);
+        expect(all_are(less, boardid_answer_count(answer), 0xFF), what);
+        expect_count(boardid_check_image(format, less.bytes, less.length), count - 1, what);
+        memset(more.bytes, 0x5A, more.length);
+        answer = boardid_add_field(format, less.bytes, less.length, field.bytes, field.length,
+                                   image.bytes, image.length, more.bytes, more.length);
+        if (key) {
+            expect_number(boardid_answer_number(answer), 0, what);
+            expect(boardid_answer_count(answer) <= image.length, what);
+            expect(all_are(more, boardid_answer_count(answer), 0xFF), what);
+            expect_count(boardid_check_image(format, more.bytes, more.length), count, what);
+        } else {
+            expect_refused(answer, 7, 0, what);
+            expect(all_are(more, 0, 0x5A), what);
+        }
+    }
+    give_back(field);
+    give_back(more);
+    give_back(less);
 }
 
 /* Entry n of an accepted image by every call that gives one entry, against its record in the list. */
@@ -590,6 +659,7 @@ static void one_entry(uint32_t format, struct lent image, uint32_t n, const uint
         expect(boardid_answer_count(answer) <= image.length, what);
         expect(all_are(out, boardid_answer_count(answer), 0xFF), what);
     }
+    one_entry_moved(format, image, n, record, what);
     give_back(out);
     give_back(walk);
     give_back(cut);
@@ -678,6 +748,10 @@ static void accepted_alike(uint32_t format, struct lent image, uint32_t count, c
     expect_refused(boardid_value_at(format, image.bytes, image.length, (uint64_t)1 << 32), 13, 0,
                    what);
     expect_refused(boardid_edit_entry(format, image.bytes, image.length, count, NULL, 0, NULL, 0),
+                   13, 0, what);
+    expect_refused(boardid_remove_entry(format, image.bytes, image.length, count, NULL, 0), 13, 0,
+                   what);
+    expect_refused(boardid_add_field(format, image.bytes, image.length, NULL, 0, NULL, 0, NULL, 0),
                    13, 0, what);
     if (format != BOARDID_FORMAT_TINY) {
         expect_refused(boardid_string_at(format, image.bytes, image.length, 0), 16, 0, what);
@@ -1274,8 +1348,6 @@ static void edits(void)
 /* Each byte as a key: every one is read and kept by an edit, and the alphabet's are written. */
 static void key_bytes(void)
 {
-    static const char alphabet[] = "abcdefghijklmnopqrstuvwxyz"
-                                   "ABCDEFGHIJKLMNOPQRSTUVWXYZ0123456789_";
     static const struct boardid_field whole = {BOARDID_VPD_STRING, 2, 1, 4, 1};
     struct lent image = lend_hex("01 01 00 01 42 00"), out = lend(image.length);
     struct lent field = lend(BOARDID_FIELD_SIZE);
@@ -1294,7 +1366,7 @@ static void key_bytes(void)
         memset(out.bytes, 0x5A, out.length);
         answer = boardid_write_image(2, field.bytes, field.length, image.bytes, image.length,
                                      out.bytes, out.length);
-        if (memchr(alphabet, byte, sizeof alphabet - 1) != NULL) {
+        if (of_alphabet(image.bytes + 2, 1)) {
             expect_count(answer, 6, "a key of the alphabet is written");
             expect(same_bytes(out, image), "a key of the alphabet is written as it is");
         } else {

@@ -87,6 +87,10 @@ static const struct add_case add_cases[] = {
      {{0, 0, 17}, {0, 0, 17}}, SKU "01 04 6E 6F 74 65 01 01 00"},
     {"VPD: long lengths stay", 2, LONG_SKU LONG_INFO "FF 01 00", {1, 5, 4, 3, 2}, VPD_VALUES, 40,
      {{0, 0, 30}, {0, 0, 30}}, LONG_SKU LONG_INFO "01 04 6E 6F 74 65 02 41 37 00"},
+    {"VPD: the manual's example", 2, "01 80 03 53 4B 55 80 02 41 37 FF AA", {1, 0, 1, 1, 0}, "6E", 20,
+     {{0, 0, 15}, {0, 0, 15}}, "01 80 03 53 4B 55 80 02 41 37 01 01 6E 00 00"},
+    {"VPD: the manual's example, its key", 2, "01 80 03 53 4B 55 80 02 41 37 FF AA",
+     {1, 0, 3, 3, 2}, VPD_VALUES, 40, {{8, 0, 0}, {8, 0, 0}}, ""},
     {"VPD: what no write makes stays", 2, NAMES, {1, 0, 3, 3, 2}, VPD_VALUES, 50,
      {{0, 0, 38}, {0, 0, 38}},
      "01 80 08 " LAB_RACK " 03 52 30 37 FE 01 22 04 01 02 03 04 01 03 22 00 FF 00 " SKU "00"},
@@ -557,6 +561,9 @@ static const struct remove_case remove_cases[] = {
     {"Tiny: a pool whose strings are counted", 3,
      "56 02 13 " TINY_COUNTING "01 04 53 B1 50 B2 C4", 2, 30, {{0, 0, 13}, {0, 0, 13}},
      "56 02 0D " TINY_COUNTING "68"},
+    {"Tiny: the pool of the manual's example", 3,
+     "56 02 13 10 00 60 02 1A 2B 3C 4D 5E 01 04 53 4E 2D B7 63", 2, 24, {{0, 0, 13}, {0, 0, 13}},
+     "56 02 0D 10 00 60 02 1A 2B 3C 4D 5E 33"},
     {"Tiny: 10h beside a pool", 3, "56 02 13 " TINY_COUNTING "01 04 53 B1 50 B2 C4", 1, 30,
      {{0, 0, 17}, {0, 0, 17}}, "56 02 11 61 00 01 02 03 2D 2D 01 04 53 B1 50 B2 39"},
     {"Tiny: 80h between what is not named and the pool", 3,
@@ -723,11 +730,13 @@ static void order(void)
 
 /* ---- Additions beside writes ---------------------------------------------------------------- */
 
-/* A list of fields, what is required and one field, and its values. */
+/* A list of fields, what is required and one field; its values; and two outputs. */
 struct field_list {
     struct lent fields;
     size_t required;
     struct lent values;
+    struct lent written;
+    struct lent added;
 };
 
 /*
@@ -739,22 +748,22 @@ static void as_written(uint32_t format, uint32_t edition, const struct field_lis
 {
     static const char what[] = "an addition beside a write";
     uint8_t *last = list->fields.bytes + list->required * BOARDID_FIELD_SIZE;
-    struct lent written = lend(60), added = lend(60);
-    uint64_t write = boardid_write(format, edition, list->fields.bytes, list->fields.length,
-                                   list->values.bytes, list->values.length, written.bytes,
-                                   written.length);
-    uint64_t add = boardid_add(format, edition, image.bytes, image.length, last,
-                               BOARDID_FIELD_SIZE, list->values.bytes, list->values.length,
-                               added.bytes, added.length);
+    uint64_t write, add;
 
+    memset(list->written.bytes, 0x5A, list->written.length);
+    memset(list->added.bytes, 0x5A, list->added.length);
+    write = boardid_write(format, edition, list->fields.bytes, list->fields.length,
+                          list->values.bytes, list->values.length, list->written.bytes,
+                          list->written.length);
+    add = boardid_add(format, edition, image.bytes, image.length, last, BOARDID_FIELD_SIZE,
+                      list->values.bytes, list->values.length, list->added.bytes,
+                      list->added.length);
     if (boardid_answer_number(write) == 0) {
         expect_number(add, write, what);
     } else {
         expect_refused(add, boardid_answer_number(write), 0, what);
     }
-    expect(same_bytes(written, added), what);
-    give_back(added);
-    give_back(written);
+    expect(same_bytes(list->written, list->added), what);
 }
 
 /* Every code with values of every length to 20, of zeros, digits and letters, in every edition. */
@@ -769,6 +778,8 @@ static void every_code(void)
 
     memcpy(all.bytes, values.bytes, 3);
     list.values = all;
+    list.written = lend(60);
+    list.added = lend(60);
     for (format = 1; format <= 4; format++) {
         list.required = format == 1 ? sizeof required / sizeof required[0] : 0;
         list.fields = lend((list.required + 1) * BOARDID_FIELD_SIZE);
@@ -795,6 +806,8 @@ static void every_code(void)
         }
         give_back(list.fields);
     }
+    give_back(list.added);
+    give_back(list.written);
     give_back(all);
     give_back(values);
 }
@@ -804,8 +817,6 @@ static void every_code(void)
 /* Each byte as a key that is there: it is removed, and another is added only in the alphabet. */
 static void key_bytes(void)
 {
-    static const char alphabet[] = "abcdefghijklmnopqrstuvwxyz"
-                                   "ABCDEFGHIJKLMNOPQRSTUVWXYZ0123456789_";
     static const struct boardid_field whole = {BOARDID_VPD_STRING, 0, 1, 1, 0};
     struct lent image = lend_hex("01 01 00 01 42 00"), field = lend(BOARDID_FIELD_SIZE);
     struct lent key = lend(1), out = lend(10), wanted = lend_hex("01 01 00 01 42 01 01 00 00 00");
@@ -819,10 +830,11 @@ static void key_bytes(void)
         expect_number(out.bytes[0], 0, "any key is removed: the end");
         expect(all_are(out, 1, 0xFF), "any key is removed: after the end");
         for (byte = 0; byte < 256; byte++) {
-            int written = memchr(alphabet, byte, sizeof alphabet - 1) != NULL;
             uint64_t answer;
+            int written;
 
             key.bytes[0] = wanted.bytes[7] = (uint8_t)byte;
+            written = of_alphabet(key.bytes, key.length);
             memset(out.bytes, 0x5A, out.length);
             answer = boardid_add_field(2, image.bytes, image.length, field.bytes, field.length,
                                        key.bytes, key.length, out.bytes, out.length);

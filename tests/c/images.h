@@ -1,6 +1,28 @@
-/* Images, and bytes that they are written from, which several test programs use. In hexadecimal. */
+/*
+ * Images, and bytes that they are written from, in hexadecimal, and the alphabet of VPD keys, which
+ * several test programs use.
+ */
 #ifndef IMAGES_H
 #define IMAGES_H
+
+#include <stddef.h>
+#include <stdint.h>
+#include <string.h>
+
+/* Whether a VPD 01h with this key is written and added: its bytes are a-z, A-Z, 0-9 and _. */
+static inline int of_alphabet(const uint8_t *key, size_t length)
+{
+    static const char alphabet[] = "abcdefghijklmnopqrstuvwxyz"
+                                   "ABCDEFGHIJKLMNOPQRSTUVWXYZ0123456789_";
+    size_t i;
+
+    for (i = 0; i < length; i++) {
+        if (memchr(alphabet, key[i], sizeof alphabet - 1) == NULL) {
+            return 0;
+        }
+    }
+    return length != 0;
+}
 
 /* The key "lab.rack", which is read and is not written. */
 #define LAB_RACK "6C 61 62 2E 72 61 63 6B"

@@ -282,7 +282,7 @@ installed() {
     install_here "PREFIX=$prefix" || return 1
     cmp "$prefix/include/boardid.h" "include/edition-$newest/boardid.h" || return 1
     export PKG_CONFIG_PATH=$prefix/lib/pkgconfig
-    pkg-config --atleast-version="$newest" boardid || return 1
+    pkg-config --atleast-version="$newest" boardid && pkg-config --atleast-version=4.1 boardid || return 1
     read -r -a flags <<<"$(pkg-config --cflags --libs boardid)"
     (cd "$room" && "$cc" -std=c99 -o list-installed "$root/examples/list.c" "${flags[@]}" "${more[@]}") || return 1
     "$room/list-installed" vpd samples/sku.vpd | grep -q "edition $newest, 1 entry" || return 1
@@ -345,10 +345,13 @@ else
     echo 'left out: there is no pkg-config'
 fi
 try 'make install with DESTDIR' staged
-for example in 1 2 3; do
+for edition in 1 2; do
+    try "worked example 5 of docs/C-INTERFACE.md, edition $edition" worked_example 5 "$edition"
+done
+for example in 1 2 3 5; do
     try "worked example $example of docs/C-INTERFACE.md, edition 3" worked_example "$example" 3
 done
-for example in 1 2 3 4; do
+for example in 1 2 3 4 5; do
     try "worked example $example of docs/C-INTERFACE.md" worked_example "$example" "$newest"
 done
 finish
