@@ -416,8 +416,37 @@ static void vendor_offsets(void)
 }
 #endif
 
+/*
+ * The types of the calls that change an image, exported and with the edition filled in: what a
+ * compiled program passes never changes. A pointer of another type does not compile here.
+ */
+static void types(void)
+{
+    uint64_t (*const write)(uint32_t, uint32_t, const uint8_t *, size_t, const uint8_t *, size_t,
+                            uint8_t *, size_t) = boardid_write;
+    uint64_t (*const write_image)(uint32_t, const uint8_t *, size_t, const uint8_t *, size_t,
+                                  uint8_t *, size_t) = boardid_write_image;
+    uint64_t (*const edit)(uint32_t, uint32_t, const uint8_t *, size_t, uint64_t, const uint8_t *,
+                           size_t, uint8_t *, size_t) = boardid_edit;
+    uint64_t (*const edit_entry)(uint32_t, const uint8_t *, size_t, uint64_t, const uint8_t *,
+                                 size_t, uint8_t *, size_t) = boardid_edit_entry;
+    uint64_t (*const add)(uint32_t, uint32_t, const uint8_t *, size_t, const uint8_t *, size_t,
+                          const uint8_t *, size_t, uint8_t *, size_t) = boardid_add;
+    uint64_t (*const add_field)(uint32_t, const uint8_t *, size_t, const uint8_t *, size_t,
+                                const uint8_t *, size_t, uint8_t *, size_t) = boardid_add_field;
+    uint64_t (*const remove_one)(uint32_t, uint32_t, const uint8_t *, size_t, uint64_t, uint8_t *,
+                                 size_t) = boardid_remove;
+    uint64_t (*const remove_entry)(uint32_t, const uint8_t *, size_t, uint64_t, uint8_t *,
+                                   size_t) = boardid_remove_entry;
+
+    expect(write != NULL && edit != NULL && add != NULL && remove_one != NULL, "exported calls");
+    expect(write_image != NULL && edit_entry != NULL && add_field != NULL && remove_entry != NULL,
+           "calls of the header");
+}
+
 int main(void)
 {
+    types();
     constants();
     refusals();
     answers();
