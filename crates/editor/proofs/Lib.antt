@@ -1,2 +1,4 @@
-pub mod Edits
+pub mod Adding
+pub mod Changes
+pub mod Cutting
 pub mod Splicing

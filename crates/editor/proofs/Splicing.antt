@@ -1,7 +1,7 @@
 -- Bytes of entries laid into an output from where the header ends, their length, and their image.
 -- Assumes nothing.
 use Prim.Native.Nat.{ℕ, _+_, _≤_}
-use mathlib.Core.Path.{_≡_, ap, ap₂, sym, _∙_}
+use mathlib.Core.Path.{_≡_, refl, ap, ap₂, sym, _∙_}
 use mathlib.Core.List.{List, _++_}
 use mathlib.Core.Bool.{Bool, true, false}
 use native.Mathlib.Omega.{arith}
@@ -14,50 +14,74 @@ use Rattle.layout.specs.Editions.{shape}
 use Rattle.layout.specs.Read.{limit}
 use Rattle.layout.specs.Write.{refuse, put, imageOf}
 use Rattle.output.specs.Lengths.{capped, sealedLength, fitsIn}
-use Rattle.output.specs.Placing.{copied, valuePlaced, finished}
+use Rattle.output.specs.Placing.{copied, openingPlaced, valuePlaced, finished}
 use Rattle.output.proofs.Lengths.{capped-min}
 use Rattle.output.proofs.Overlay.{part-over, copied-over, length-copied, copied-then}
 use Rattle.output.proofs.Putting.{fits-room, put-not, put-fits}
-use Rattle.output.proofs.Rooms.{value-copied}
-use Rattle.editor.specs.Here.{spliced}
+use Rattle.output.proofs.Rooms.{opening-copied, value-copied}
+use Rattle.editor.specs.declared.Fresh.{Fresh}
+use Rattle.editor.specs.declared.Fresh.the-variants.{Entry}
+use Rattle.editor.specs.Here.{freshBytes, Puttable, spliced}
 
 -- What was copied is read there.
-pub copied-stands : (d : List ℕ) (a : ℕ) (s : List ℕ) → a + length s ≤ length d → part a (length s) (copied d a s) ≡ s
+copied-stands : (d : List ℕ) (a : ℕ) (s : List ℕ) → a + length s ≤ length d → part a (length s) (copied d a s) ≡ s
 copied-stands d a s le = rw (copied-over d a s le) (part-over d a s (omega arith))
 
-module _ (S : Shape) (c : ℕ) (front v after : List ℕ) where
-  pub length-spliced : length (spliced S c front v after) ≡ length front + (length (S .lens c (length v)) + length v) + length after
-  unfolding spliced
-  length-spliced = simp length-append
+-- The length of a whole entry by sums that are cut off.
+pub capped-entry : (S : Shape) (c : ℕ) (key v : List ℕ) {k l n : ℕ} → k ≡ capped (length (S .opening c key)) → l ≡ capped (length (S .lens c (length v)) + length v) → n ≡ capped (k + l) →
+    n ≡ capped (length (freshBytes S (Entry c) key v))
+capped-entry S c key v {k} {l} p q r =
+    let o = S .opening c key in
+    let w = S .lens c (length v) in
+    omega (
+      arith,
+      length-append o (w ++ v),
+      length-append w v,
+      capped-min (length o),
+      capped-min (length w + length v),
+      capped-min (k + l),
+      capped-min (length (freshBytes S (Entry c) key v)),
+    )
 
-  -- Its length by sums that are cut off.
-  pub capped-spliced : {k m n : ℕ} → k ≡ capped (length (S .lens c (length v)) + length v) → m ≡ capped (length front + k) → n ≡ capped (m + length after) →
-      n ≡ capped (length (spliced S c front v after))
+-- What opens an entry and its value, side by side, are the entry.
+pub entry-laid : (S : Shape) (c : ℕ) (key v d : List ℕ) (a : ℕ) {d₁ d₂ : List ℕ} {k next : ℕ} → length d ≤ limit → Puttable S (Entry c) v → a + length (freshBytes S (Entry c) key v) ≤ length d →
+    d₁ ≡ openingPlaced S d a c key → k ≡ capped (length (S .opening c key)) → next ≡ a + k → d₂ ≡ valuePlaced S d₁ next c v → d₂ ≡ copied d a (freshBytes S (Entry c) key v)
+entry-laid S c key v d a {d₁ = d₁} {next = next} short ok fits p q n r =
+    let o = S .opening c key in
+    let w = S .lens c (length v) ++ v in
+    let opened = p ∙ opening-copied S d a c key (ok .0) short in
+    let same : length d₁ ≡ length d = ap length opened ∙ length-copied d a o in
+    copied-then d a o w opened (r ∙ value-copied S d₁ next c v (ok .1) (omega arith)) fits (omega (arith, length-append o w, capped-min (length o)))
+
+module _ (S : Shape) (x : Fresh) (key v front after : List ℕ) where
+  pub length-spliced : length (spliced S x key v front after) ≡ length front + length (freshBytes S x key v) + length after
+  unfolding spliced
+  length-spliced = length-append (front ++ freshBytes S x key v) after ∙ ap (λ (n : ℕ). n + length after) (length-append front (freshBytes S x key v))
+
+  -- Their length by sums that are cut off.
+  capped-spliced : {k m n : ℕ} → k ≡ capped (length (freshBytes S x key v)) → m ≡ capped (length front + k) → n ≡ capped (m + length after) →
+      n ≡ capped (length (spliced S x key v front after))
   capped-spliced {k} {m} {n} p q r =
-      let l = length (S .lens c (length v)) + length v in
-      omega (arith, length-spliced, capped-min l, capped-min (length front + k), capped-min (m + length after), capped-min (length (spliced S c front v after)))
+      let l = length (freshBytes S x key v) in
+      omega (arith, length-spliced, capped-min l, capped-min (length front + k), capped-min (m + length after), capped-min (length (spliced S x key v front after)))
 
   -- Three writes, each where the one before ends.
-  pub laid : (d : List ℕ) (a : ℕ) {d₁ d₂ d₃ : List ℕ} {at next : ℕ} → d₁ ≡ copied d a front → d₂ ≡ valuePlaced S d₁ at c v → d₃ ≡ copied d₂ next after →
-      at ≡ a + length front → next ≡ at + (length (S .lens c (length v)) + length v) → S .lengthRule c (length v) ≡ true → length d ≤ limit →
-      a + length (spliced S c front v after) ≤ length d → d₃ ≡ copied d a (spliced S c front v after)
+  pub three-laid : (d : List ℕ) (a : ℕ) {d₁ d₂ d₃ : List ℕ} {at next : ℕ} → d₁ ≡ copied d a front → d₂ ≡ copied d₁ at (freshBytes S x key v) → d₃ ≡ copied d₂ next after →
+      at ≡ a + length front → next ≡ at + length (freshBytes S x key v) → a + length (spliced S x key v front after) ≤ length d → d₃ ≡ copied d a (spliced S x key v front after)
   unfolding spliced
-  laid d a {d₁ = d₁} {at = at} p q r ea en rule short fits =
-      let lens = S .lens c (length v) in
-      let same : length d₁ ≡ length d = ap length p ∙ length-copied d a front in
-      let l₁ = length-append lens v in
-      let l₂ = length-append front (lens ++ v) in
-      let l₃ = length-append (front ++ (lens ++ v)) after in
-      let valued = q ∙ value-copied S d₁ at c v rule (omega arith) in
-      copied-then d a (front ++ (lens ++ v)) after (copied-then d a front (lens ++ v) p valued (omega arith) ea) r fits (omega arith)
+  three-laid d a p q r ea en fits =
+      let w = freshBytes S x key v in
+      let l₁ = length-append front w in
+      let l₂ = length-append (front ++ w) after in
+      copied-then d a (front ++ w) after (copied-then d a front w p q (omega arith) ea) r fits (omega arith)
 
 -- The image of such entries, by the tests and writes that put it into the output.
-module _ (f : Format) (c : ℕ) (front v after out : List ℕ) {k m n : ℕ} {t : Bool} (p : k ≡ capped (length (shape f .lens c (length v)) + length v)) (q : m ≡ capped (length front + k)) (r : n ≡ capped (m + length after)) (test : t ≡ fitsIn (shape f) n (length out)) where
+module _ (f : Format) (x : Fresh) (key v front after out : List ℕ) {k m n : ℕ} {t : Bool} (p : k ≡ capped (length (freshBytes (shape f) x key v))) (q : m ≡ capped (length front + k)) (r : n ≡ capped (m + length after)) (test : t ≡ fitsIn (shape f) n (length out)) where
   abbrev entries : List ℕ
-  entries = spliced (shape f) c front v after
+  entries = spliced (shape f) x key v front after
 
   tested : fitsIn (shape f) (capped (length entries)) (length out) ≡ t
-  tested = ap (λ (x : ℕ). fitsIn (shape f) x (length out)) (sym (capped-spliced (shape f) c front v after p q r)) ∙ sym test
+  tested = ap (λ (x : ℕ). fitsIn (shape f) x (length out)) (sym (capped-spliced (shape f) x key v front after p q r)) ∙ sym test
 
   pub spliced-not : t ≡ false → put (shape f) (imageOf (shape f) entries) out ≡ refuse (refusal 12 0) out
   spliced-not no-room = put-not f entries out (tested ∙ no-room)
@@ -69,7 +93,7 @@ module _ (f : Format) (c : ℕ) (front v after out : List ℕ) {k m n : ℕ} {t 
       put (shape f) (imageOf (shape f) entries) out ≡ record { answer = Wrote l; memory = d₂ }
   spliced-put fits {d₁ = d₁} laid seals long =
       let h = length (shape f .header 0) in
-      let cut = capped-spliced (shape f) c front v after p q r in
+      let cut = capped-spliced (shape f) x key v front after p q r in
       let same : length d₁ ≡ length out = ap length laid ∙ length-copied out h entries in
       let stands : part h (length entries) d₁ ≡ entries = ap (part h (length entries)) laid ∙ copied-stands out h entries (spliced-room fits) in
       put-fits f entries out d₁ same stands (tested ∙ fits)

@@ -2,10 +2,10 @@
 ghost use mathlib.Core.Path.{_≡_};
 ghost use mathlib.Core.Bool.{false};
 ghost use Prim.Native.Nat.{_-_, _*_, _≤_};
-ghost use Rattle.layout.specs.Bytes.{if, part};
+ghost use Rattle.layout.specs.Bytes.{if, oneOf, part};
 ghost use Rattle.layout.specs.Shape.{fine, faulty, onLength, onHead, next};
 ghost use Rattle.layout.specs.Editions.{shape, withEdition, chosen, names, kind};
-ghost use Rattle.layout.specs.Read.{sealed};
+ghost use Rattle.layout.specs.Read.{sealed, same};
 ghost use Rattle.laws.specs.Marked.{allMarked};
 ghost use Rattle.frames.specs.Spots.{spotAt};
 use layout::Chosen;
@@ -360,6 +360,40 @@ pub fn is_complete(format: Format, seen: &[u8; 256]) -> bool
         Format::Vpd => true,
         Format::Tiny => true,
         Format::Onie => true,
+    }
+}
+
+// Whether an image must have an entry of this code.
+pub fn is_required(format: Format, code: u32) -> bool
+    ensures { λ r. ⌜ r ≡ oneOf (shape format .required) code ⌝ }
+{
+    match format {
+        Format::Fboss => {
+            (code == 1) | ((code == 8) | ((code == 9) | ((code == 10) | (code == 11))))
+        }
+        Format::Vpd => false,
+        Format::Tiny => false,
+        Format::Onie => false,
+    }
+}
+
+// Whether an entry of this code and key comes a second time where there is one of the code and the key given after them.
+pub fn is_same(format: Format, code: u32, key: &[u8], code2: u32, key2: &[u8]) -> bool
+    ensures { λ r. ⌜ r ≡ same (shape format) (record { code = code; key = now (key .entry) }) (record { code = code2; key = now (key2 .entry) }) ⌝ }
+{
+    if code != code2 {
+        return false;
+    }
+    match format {
+        Format::Fboss => true,
+        Format::Vpd => {
+            if code == 0x01 {
+                return parts::same_bytes(key, key2);
+            }
+            true
+        }
+        Format::Tiny => true,
+        Format::Onie => code != 0xFD,
     }
 }
 

@@ -76,7 +76,7 @@ fn is_seen(
 }
 
 // Whether a field meets the writer's rule.
-fn meets_rule(format: Format, values: &[u8], x: Field) -> bool
+pub fn meets_rule(format: Format, values: &[u8], x: Field) -> bool
     ensures { λ r. ⌜ r ≡ writerRule (shape format) (fieldContent (shape format) (now (values .entry)) x) ⌝ }
 {
     let code = x.code;

@@ -2,12 +2,14 @@
 -- Assumes nothing.
 use borrow.Author.Needs.{needs}
 use mathlib.Core.Path.{ap, sym, _∙_}
+use native.Mathlib.Omega.{arith}
 use denote.Ref.{now}
 use borrow.Author.Tests.{not-true, not-false}
 use Rattle.layout.specs.Editions.{shape}
 use Rattle.layout.specs.Write.{Outcome}
 use Rattle.laws.proofs.Calls.{outcome}
-use Rattle.editor.proofs.Edits.{at-unnamed, at-length, at-value, at-put}
+use Rattle.editor.specs.Here.{spliced}
+use Rattle.editor.proofs.Changes.{edit-unnamed, edit-length, edit-value, edit-put}
 use Rattle.editor.proofs.edit_at.Statement.{statement}
 use Rattle.editor.proofs.edit_at.Tie as tie
 
@@ -20,7 +22,7 @@ refused-requires c κs = search needs
 returns : tie.Need-returns
 returns c =
     let a = c .before .before .before .before .before .before .args in
-    rw (c .refused .ensures) (outcome (at-unnamed (shape (a .format)) (a .edition) (now (a .image)) (a .start) (a .over) (a .p) (a .f) (now (a .value)) (now (a .out)) (sym (c .before .before .is-named .ensures) ∙ not-true (c .before .before .is-named .result) (c .before .if1 .taken))))
+    rw (c .refused .ensures) (outcome (edit-unnamed (shape (a .format)) (a .edition) (now (a .image)) (a .start) (a .over) (a .p) (a .f) (now (a .value)) (now (a .out)) (sym (c .before .before .is-named .ensures) ∙ not-true (c .before .before .is-named .result) (c .before .if1 .taken))))
 
 length-rule-requires : tie.Need-length-rule-requires
 length-rule-requires c κs = search needs
@@ -31,7 +33,7 @@ refused-requires-2 c κs = search needs
 returns-2 : tie.Need-returns-2
 returns-2 c =
     let a = c .before .before .before .before .before .before .before .before .args in
-    rw (c .refused2 .ensures) (outcome (at-length (shape (a .format)) (a .edition) (now (a .image)) (a .start) (a .over) (a .p) (a .f) (now (a .value)) (now (a .out)) (sym (c .before .before .before .before .is-named .ensures) ∙ not-false (c .before .before .before .before .is-named .result) (c .before .before .before .if1 .left)) (sym (c .before .before .length-rule .ensures) ∙ not-true (c .before .before .length-rule .result) (c .before .if2 .taken))))
+    rw (c .refused2 .ensures) (outcome (edit-length (shape (a .format)) (a .edition) (now (a .image)) (a .start) (a .over) (a .p) (a .f) (now (a .value)) (now (a .out)) (sym (c .before .before .before .before .is-named .ensures) ∙ not-false (c .before .before .before .before .is-named .result) (c .before .before .before .if1 .left)) (sym (c .before .before .length-rule .ensures) ∙ not-true (c .before .before .length-rule .result) (c .before .if2 .taken))))
 
 value-rule-requires : tie.Need-value-rule-requires
 value-rule-requires c κs = search needs
@@ -43,37 +45,32 @@ returns-3 : tie.Need-returns-3
 returns-3 c =
     let a = c .before .before .before .before .before .before .before .before .before .before .args in
     rw (c .refused3 .ensures)
-    (outcome (at-value (shape (a .format)) (a .edition) (now (a .image)) (a .start) (a .over) (a .p) (a .f) (now (a .value)) (now (a .out)) (sym (c .before .before .before .before .before .before .is-named .ensures) ∙ not-false (c .before .before .before .before .before .before .is-named .result) (c .before .before .before .before .before .if1 .left)) (sym (c .before .before .before .before .length-rule .ensures) ∙ not-false (c .before .before .before .before .length-rule .result) (c .before .before .before .if2 .left)) (sym (c .before .before .value-rule .ensures) ∙ not-true (c .before .before .value-rule .result) (c .before .if3 .taken))))
+    (outcome (edit-value (shape (a .format)) (a .edition) (now (a .image)) (a .start) (a .over) (a .p) (a .f) (now (a .value)) (now (a .out)) (sym (c .before .before .before .before .before .before .is-named .ensures) ∙ not-false (c .before .before .before .before .before .before .is-named .result) (c .before .before .before .before .before .if1 .left)) (sym (c .before .before .before .before .length-rule .ensures) ∙ not-false (c .before .before .before .before .length-rule .result) (c .before .before .before .if2 .left)) (sym (c .before .before .value-rule .ensures) ∙ not-true (c .before .before .value-rule .result) (c .before .if3 .taken))))
 
-add-part-of : tie.Need-add-part-of
-add-part-of c = search needs
+slice-aggregate-key : tie.Need-slice-aggregate-key
+slice-aggregate-key c = search needs
 
-sub-part-of : tie.Need-sub-part-of
-sub-part-of c = search needs
+add-put-between : tie.Need-add-put-between
+add-put-between c = search needs
 
-part-of-requires : tie.Need-part-of-requires
-part-of-requires c κs = search needs
+add-put-between-2 : tie.Need-add-put-between-2
+add-put-between-2 c = search needs
 
-add-next : tie.Need-add-next
-add-next c = search needs
-
-sub-part-of-2 : tie.Need-sub-part-of-2
-sub-part-of-2 c = search needs
-
-part-of-requires-2 : tie.Need-part-of-requires-2
-part-of-requires-2 c κs = search needs
-
-put-entries-requires : tie.Need-put-entries-requires
-put-entries-requires c κs = (c .before .before .before .before .before .before .before .before .before .before .before .before .before .before .pre .0, sym (c .before .before .before .before .before .before .before .before .length-rule .ensures) ∙ not-false (c .before .before .before .before .before .before .before .before .length-rule .result) (c .before .before .before .before .before .before .before .if2 .left))
+put-between-requires : tie.Need-put-between-requires
+put-between-requires c κs =
+    let b = c .before .before .before .before .before .before .before .before .before .before .before .before .before in
+    let w = b .pre .1 in
+    ((b .pre .0, sym (c .before .before .before .before .before .before .before .length-rule .ensures) ∙ not-false (c .before .before .before .before .before .before .before .length-rule .result) (c .before .before .before .before .before .before .if2 .left)), (omega (arith, w .begins), w .ends))
 
 same-length : tie.Need-same-length
 same-length c = search needs
 
 returns-4 : tie.Need-returns-4
+unfolding spliced
 returns-4 c =
-    let a = c .before .before .before .before .before .before .before .before .before .before .before .before .before .before .before .before .before .args in
-    let q = at-put (shape (a .format)) (a .edition) (now (a .image)) (a .start) (a .over) (a .p) (a .f) (now (a .value)) (now (a .out)) (sym (c .before .before .before .before .before .before .before .before .before .before .before .before .before .is-named .ensures) ∙ not-false (c .before .before .before .before .before .before .before .before .before .before .before .before .before .is-named .result) (c .before .before .before .before .before .before .before .before .before .before .before .before .if1 .left)) (sym (c .before .before .before .before .before .before .before .before .before .before .before .length-rule .ensures) ∙ not-false (c .before .before .before .before .before .before .before .before .before .before .before .length-rule .result) (c .before .before .before .before .before .before .before .before .before .before .if2 .left)) (sym (c .before .before .before .before .before .before .before .before .before .value-rule .ensures) ∙ not-false (c .before .before .before .before .before .before .before .before .before .value-rule .result) (c .before .before .before .before .before .before .before .before .if3 .left)) (c .before .before .before .before .before .before .part-of .ensures) (c .before .before .before .before .part-of2 .ensures) in
-    (c .before .before .put-entries .ensures .0 ∙ sym (ap (λ (x : Outcome). x .answer) q), c .before .before .put-entries .ensures .1 ∙ sym (ap (λ (x : Outcome). x .memory) q))
+    let a = c .before .before .before .before .before .before .before .before .before .before .before .before .before .before .before .before .args in
+    let q = edit-put (shape (a .format)) (a .edition) (now (a .image)) (a .start) (a .over) (a .p) (a .f) (now (a .value)) (now (a .out)) (sym (c .before .before .before .before .before .before .before .before .before .before .before .before .is-named .ensures) ∙ not-false (c .before .before .before .before .before .before .before .before .before .before .before .before .is-named .result) (c .before .before .before .before .before .before .before .before .before .before .before .if1 .left)) (sym (c .before .before .before .before .before .before .before .before .before .before .length-rule .ensures) ∙ not-false (c .before .before .before .before .before .before .before .before .before .before .length-rule .result) (c .before .before .before .before .before .before .before .before .before .if2 .left)) (sym (c .before .before .before .before .before .before .before .before .value-rule .ensures) ∙ not-false (c .before .before .before .before .before .before .before .before .value-rule .result) (c .before .before .before .before .before .before .before .if3 .left)) in
+    (c .before .before .put-between .ensures .0 ∙ sym (ap (λ (x : Outcome). x .answer) q), c .before .before .put-between .ensures .1 ∙ sym (ap (λ (x : Outcome). x .memory) q))
 
 pub edit-at-spec : {M : Type 1} → statement M
 edit-at-spec =
@@ -88,12 +85,9 @@ edit-at-spec =
     value-rule-requires
     refused-requires-3
     returns-3
-    add-part-of
-    sub-part-of
-    part-of-requires
-    add-next
-    sub-part-of-2
-    part-of-requires-2
-    put-entries-requires
+    slice-aggregate-key
+    add-put-between
+    add-put-between-2
+    put-between-requires
     same-length
     returns-4)

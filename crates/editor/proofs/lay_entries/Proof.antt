@@ -1,9 +1,8 @@
 -- `editor::lay_entries` meets its contract: three writes, each where the one before ends.
 -- Assumes nothing.
 use borrow.Author.Needs.{needs}
-use Prim.Native.Nat.{ℕ, _+_}
+use Prim.Native.Nat.{ℕ}
 use mathlib.Core.Path.{refl, ap, _∙_}
-use mathlib.Core.List.{List}
 use native.Mathlib.Omega.{arith}
 use denote.Ref.{now}
 use lib.ListN.{length}
@@ -11,8 +10,9 @@ use Rattle.layout.specs.Shape.{Shape}
 use Rattle.layout.specs.Editions.{shape}
 use Rattle.output.specs.Placing.{copied}
 use Rattle.output.proofs.Lengths.{capped-min}
-use Rattle.editor.specs.Here.{spliced}
-use Rattle.editor.proofs.Splicing.{length-spliced, laid}
+use Rattle.output.proofs.Overlay.{length-copied}
+use Rattle.editor.specs.Here.{freshBytes, spliced}
+use Rattle.editor.proofs.Splicing.{length-spliced, three-laid}
 use Rattle.editor.proofs.lay_entries.Statement.{statement}
 use Rattle.editor.proofs.lay_entries.Tie as tie
 
@@ -25,19 +25,23 @@ copy-at-requires c κs = search needs
 add-at : tie.Need-add-at
 add-at c = search needs
 
-put-value-requires : tie.Need-put-value-requires
-put-value-requires c κs = search needs
+put-fresh-requires : tie.Need-put-fresh-requires
+put-fresh-requires c κs =
+    let b = c .before .before .before .before .before .before .before .before .before .before .before in
+    let a = b .args in
+    let S : Shape = shape (a .format) in
+    let l = ap length (c .before .before .before .copy-at .ensures) ∙ length-copied (now (a .out)) (c .before .before .before .before .before .header-length .result) (now (a .front)) in
+    ((omega (arith, l, b .pre .0 .0), b .pre .0 .1), omega (arith, l, b .pre .1, length-spliced S (a .x) (now (a .key)) (now (a .value)) (now (a .front)) (now (a .after)), c .before .before .before .before .before .header-length .ensures))
 
-value-length-requires : tie.Need-value-length-requires
-value-length-requires c κs = search needs
+fresh-length-requires : tie.Need-fresh-length-requires
+fresh-length-requires c κs = search needs
 
 add-next : tie.Need-add-next
 add-next c =
-    let b = c .before .before .before .before .before .before .before .before .before .before .before .before .before .before in
+    let b = c .before .before .before .before .before .before .before .before .before .before .before .before .before .before .before in
     let a = b .args in
     let S : Shape = shape (a .format) in
-    let v : List ℕ = now (a .value) in
-    omega (arith, b .pre, length-spliced S (a .code) (now (a .front)) v (now (a .after)), c .before .before .before .before .before .before .before .before .before .header-length .ensures, c .value-length .ensures, capped-min (length (S .lens (a .code) (length v)) + length v))
+    omega (arith, b .pre, length-spliced S (a .x) (now (a .key)) (now (a .value)) (now (a .front)) (now (a .after)), c .before .before .before .before .before .before .before .before .before .header-length .ensures, c .fresh-length .ensures, capped-min (length (freshBytes S (a .x) (now (a .key)) (now (a .value)))))
 
 copy-at-requires-2 : tie.Need-copy-at-requires-2
 copy-at-requires-2 c κs = search needs
@@ -47,18 +51,15 @@ same-length c = search needs
 
 returns : tie.Need-returns
 returns c =
-    let b = c .before .before .before .before .before .before .before .before .before .before .before .before .before .before .before .before .before .before in
+    let b = c .before .before .before .before .before .before .before .before .before .before .before .before .before .before .before .before .before .before .before in
     let a = b .args in
     let S : Shape = shape (a .format) in
-    let v : List ℕ = now (a .value) in
     let starts = c .before .before .before .before .before .before .before .before .before .before .before .before .before .header-length in
-    let says = c .before .before .before .before .value-length .ensures in
     let fits = b .pre .1 in
-    let n = length (S .lens (a .code) (length v)) + length v in
-    let l = length-spliced S (a .code) (now (a .front)) v (now (a .after)) in
-    laid S (a .code) (now (a .front)) v (now (a .after)) (now (a .out)) (starts .result) (c .before .before .before .before .before .before .before .before .before .before .before .copy-at .ensures) (c .before .before .before .before .before .before .before .put-value .ensures) (c .before .before .copy-at2 .ensures) refl
-    (omega (arith, says, capped-min n, l, fits, b .pre .0)) (b .pre .0 .1) (b .pre .0 .0) (omega (arith, starts .ensures, fits))
-    ∙ ap (λ (k : ℕ). copied (now (a .out)) k (spliced S (a .code) (now (a .front)) v (now (a .after)))) (starts .ensures)
+    let l = length-spliced S (a .x) (now (a .key)) (now (a .value)) (now (a .front)) (now (a .after)) in
+    three-laid S (a .x) (now (a .key)) (now (a .value)) (now (a .front)) (now (a .after)) (now (a .out)) (starts .result) (c .before .before .before .before .before .before .before .before .before .before .before .copy-at .ensures) (c .before .before .before .before .before .before .before .put-fresh .ensures) (c .before .before .copy-at2 .ensures) refl
+    (omega (arith, c .before .before .before .before .fresh-length .ensures, capped-min (length (freshBytes S (a .x) (now (a .key)) (now (a .value)))), l, fits, b .pre .0 .0)) (omega (arith, starts .ensures, fits))
+    ∙ ap (λ (k : ℕ). copied (now (a .out)) k (spliced S (a .x) (now (a .key)) (now (a .value)) (now (a .front)) (now (a .after)))) (starts .ensures)
 
 pub lay-entries-spec : {M : Type 1} → statement M
 lay-entries-spec =
@@ -67,8 +68,8 @@ lay-entries-spec =
     header-length-requires
     copy-at-requires
     add-at
-    put-value-requires
-    value-length-requires
+    put-fresh-requires
+    fresh-length-requires
     add-next
     copy-at-requires-2
     same-length

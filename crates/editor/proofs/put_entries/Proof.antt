@@ -8,8 +8,8 @@ use Rattle.editor.proofs.Splicing.{spliced-not, spliced-room, spliced-p
 use Rattle.editor.proofs.put_entries.Statement.{statement}
 use Rattle.editor.proofs.put_entries.Tie as tie
 
-value-length-requires : tie.Need-value-length-requires
-value-length-requires c κs = search needs
+fresh-length-requires : tie.Need-fresh-length-requires
+fresh-length-requires c κs = search needs
 
 add-capped-requires : tie.Need-add-capped-requires
 add-capped-requires c κs = search needs
@@ -25,17 +25,17 @@ refused-requires c κs = search needs
 
 returns : tie.Need-returns
 returns c =
-    let a = c .before .before .before .before .before .before .before .before .before .before .args in
+    let a = c .before .before .before .before .before .before .before .before .before .before .before .args in
     rw (c .refused .ensures)
     (outcome
-    (spliced-not (a .format) (a .code) (now (a .front)) (now (a .value)) (now (a .after)) (now (a .out)) (c .before .before .before .before .before .value-length .ensures) (c .before .before .before .before .add-capped .ensures) (c .before .before .before .add-capped2 .ensures) (c .before .before .fits2 .ensures) (not-true (c .before .before .fits2 .result) (c .before .if1 .taken))))
+    (spliced-not (a .format) (a .x) (now (a .key)) (now (a .value)) (now (a .front)) (now (a .after)) (now (a .out)) (c .before .before .before .before .before .fresh-length .ensures) (c .before .before .before .before .add-capped .ensures) (c .before .before .before .add-capped2 .ensures) (c .before .before .fits2 .ensures) (not-true (c .before .before .fits2 .result) (c .before .if1 .taken))))
 
 lay-entries-requires : tie.Need-lay-entries-requires
 lay-entries-requires c κs =
-    let b = c .before .before .before .before .before .before .before .before .before .before in
+    let b = c .before .before .before .before .before .before .before .before .before .before .before in
     let a = b .args in (
       b .pre,
-      spliced-room (a .format) (a .code) (now (a .front)) (now (a .value)) (now (a .after)) (now (a .out)) (c .before .before .before .before .before .value-length .ensures) (c .before .before .before .before .add-capped .ensures) (c .before .before .before .add-capped2 .ensures) (c .before .before .fits2 .ensures) (not-false (c .before .before .fits2 .result) (c .before .if1 .left)),
+      spliced-room (a .format) (a .x) (now (a .key)) (now (a .value)) (now (a .front)) (now (a .after)) (now (a .out)) (c .before .before .before .before .before .fresh-length .ensures) (c .before .before .before .before .add-capped .ensures) (c .before .before .before .add-capped2 .ensures) (c .before .before .fits2 .ensures) (not-false (c .before .before .fits2 .result) (c .before .if1 .left)),
     )
 
 finish-requires : tie.Need-finish-requires
@@ -49,16 +49,16 @@ same-length c = search needs
 
 returns-2 : tie.Need-returns-2
 returns-2 c =
-    let a = c .before .before .before .before .before .before .before .before .before .before .before .before .before .before .before .before .before .before .args in
+    let a = c .before .before .before .before .before .before .before .before .before .before .before .before .before .before .before .before .before .before .before .args in
     outcome
-    (spliced-put (a .format) (a .code) (now (a .front)) (now (a .value)) (now (a .after)) (now (a .out)) (c .before .before .before .before .before .before .before .before .before .before .before .before .before .value-length .ensures) (c .before .before .before .before .before .before .before .before .before .before .before .before .add-capped .ensures) (c .before .before .before .before .before .before .before .before .before .before .before .add-capped2 .ensures) (c .before .before .before .before .before .before .before .before .before .before .fits2 .ensures) (not-false (c .before .before .before .before .before .before .before .before .before .before .fits2 .result) (c .before .before .before .before .before .before .before .before .before .if1 .left))
+    (spliced-put (a .format) (a .x) (now (a .key)) (now (a .value)) (now (a .front)) (now (a .after)) (now (a .out)) (c .before .before .before .before .before .before .before .before .before .before .before .before .before .fresh-length .ensures) (c .before .before .before .before .before .before .before .before .before .before .before .before .add-capped .ensures) (c .before .before .before .before .before .before .before .before .before .before .before .add-capped2 .ensures) (c .before .before .before .before .before .before .before .before .before .before .fits2 .ensures) (not-false (c .before .before .before .before .before .before .before .before .before .before .fits2 .result) (c .before .before .before .before .before .before .before .before .before .if1 .left))
     (c .before .before .before .before .before .before .before .lay-entries .ensures) (c .before .before .before .finish .ensures) (c .image-length .ensures))
 
 pub put-entries-spec : {M : Type 1} → statement M
 put-entries-spec =
     tie.close
     (tie.spec
-    value-length-requires
+    fresh-length-requires
     add-capped-requires
     add-capped-requires-2
     fits-requires
