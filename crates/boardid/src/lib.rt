@@ -11,7 +11,7 @@ ghost use Rattle.output.specs.Placing.{copied};
 ghost use Rattle.blocks.specs.Vendor.{readVendor};
 ghost use Rattle.records.specs.Packed.{packed};
 ghost use Rattle.records.specs.Words.{recordsBytes};
-ghost use Rattle.records.specs.Exports.{checkCall, valueCall, stringCall, entryCall, walkFormat, walkEdition, walkEntry, stepCall, listCall, writeCall, editCall, unlent, vendorReadCall, offsetsOf, vendorWriteCall};
+ghost use Rattle.records.specs.Exports.{checkCall, valueCall, stringCall, entryCall, walkFormat, walkEdition, walkEntry, stepCall, listCall, writeCall, editCall, addCall, removeCall, unlent, vendorReadCall, offsetsOf, vendorWriteCall};
 use accept::Taken;
 use blocks::Offsets;
 use blocks::Vended;
@@ -178,7 +178,7 @@ pub extern "C" fn boardid_list(format: u32, edition: u32, image: &[u8], out: &mu
     }
 }
 
-// ---- write and edit
+// ---- write, edit, add and remove
 
 // The image of a field list, into the output.
 #[no_mangle]
@@ -207,6 +207,35 @@ pub extern "C" fn boardid_edit(
     ensures { λ r. ⌜ (r ≡ editCall format edition (now (image .entry)) n (now (value .entry)) (now (out .entry)) .answer) × (now (out .exit) ≡ editCall format edition (now (image .entry)) n (now (value .entry)) (now (out .entry)) .memory) ⌝ }
 {
     records::pack_made(editor::edit_entry(out, format, edition, image, n as usize, value))
+}
+
+// The image with an entry for the field, into the output.
+#[no_mangle]
+pub extern "C" fn boardid_add(
+    format: u32,
+    edition: u32,
+    image: &[u8],
+    field: &[u8],
+    values: &[u8],
+    out: &mut [u8],
+) -> u64
+    ensures { λ r. ⌜ (r ≡ addCall format edition (now (image .entry)) (now (field .entry)) (now (values .entry)) (now (out .entry)) .answer) × (now (out .exit) ≡ addCall format edition (now (image .entry)) (now (field .entry)) (now (values .entry)) (now (out .entry)) .memory) ⌝ }
+{
+    records::pack_made(editor::add_field(out, format, edition, image, field, values))
+}
+
+// The image without entry n, into the output.
+#[no_mangle]
+pub extern "C" fn boardid_remove(
+    format: u32,
+    edition: u32,
+    image: &[u8],
+    n: u64,
+    out: &mut [u8],
+) -> u64
+    ensures { λ r. ⌜ (r ≡ removeCall format edition (now (image .entry)) n (now (out .entry)) .answer) × (now (out .exit) ≡ removeCall format edition (now (image .entry)) n (now (out .entry)) .memory) ⌝ }
+{
+    records::pack_made(editor::remove_entry(out, format, edition, image, n as usize))
 }
 
 // ---- vendor blocks
