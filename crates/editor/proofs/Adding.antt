@@ -24,7 +24,7 @@ use Rattle.laws.specs.Passes.{walked, IsDone, rawsIn}
 use Rattle.laws.proofs.Changing.{laid-flat}
 use Rattle.laws.proofs.Choices.{false-true}
 use Rattle.laws.proofs.Formats.{laws}
-use Rattle.laws.proofs.Frames.{rawOf, raw-size}
+use Rattle.laws.proofs.Frames.{raw-size}
 use Rattle.laws.proofs.Passes.{Passing, pass-first, pass-on, pass-ends, pass-unbroken}
 use Rattle.laws.proofs.Walking.{Frames}
 use Rattle.accept.specs.declared.Room.{Room}

@@ -1,6 +1,6 @@
 -- A change by what taking the image and finding the entry give.
 -- Assumes nothing.
-use Prim.Native.Nat.{ℕ, zero, suc, _+_, _-_, _≤_, _<_}
+use Prim.Native.Nat.{ℕ, zero, suc, _+_, _≤_}
 use mathlib.Core.Path.{_≡_, refl, ap, ap₂, sym, _∙_}
 use mathlib.Core.List.{List, [], _∷_, _++_, append-assoc, append-nil}
 use mathlib.Core.Bool.{Bool, true, false, _||_}
@@ -19,7 +19,7 @@ use Rattle.layout.specs.Shape.{Shape}
 use Rattle.layout.specs.Editions.{shape, chosen, names}
 use Rattle.layout.specs.Walk.{Raw, flat}
 use Rattle.layout.specs.Read.{limit, Read}
-use Rattle.layout.specs.Write.{Outcome, refuse, put, imageOf}
+use Rattle.layout.specs.Write.{refuse, put, imageOf}
 use Rattle.layout.specs.Change.{bytesOf, laid, Allowed, allowed, denied, Change, mayChange, inPlace, changeAllowed, changeRead, changeChosen, changeImage}
 use Rattle.layout.specs.Edit.{revalued, editRule, editAsks, edit, editEntry}
 use Rattle.layout.specs.Remove.{removeAsks, removal, removeEntry}
@@ -32,7 +32,6 @@ use Rattle.frames.specs.declared.Spot.the-variants.{At, Nowhere}
 use Rattle.frames.specs.Spots.{spotAt}
 use Rattle.frames.proofs.Spots.{Sized, Spotted, OnSpot, spot-walked}
 use Rattle.accept.specs.declared.Room.{Room}
-use Rattle.accept.specs.declared.Taken.{Taken}
 use Rattle.accept.specs.declared.Taken.the-variants.{Is, Isnt}
 use Rattle.accept.specs.Taken.{taken}
 use Rattle.accept.proofs.Rooms.{Took, took, not-took}

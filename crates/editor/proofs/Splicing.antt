@@ -1,7 +1,7 @@
 -- Bytes of entries laid into an output from where the header ends, their length, and their image.
 -- Assumes nothing.
 use Prim.Native.Nat.{ℕ, _+_, _≤_}
-use mathlib.Core.Path.{_≡_, refl, ap, ap₂, sym, _∙_}
+use mathlib.Core.Path.{_≡_, ap, ap₂, sym, _∙_}
 use mathlib.Core.List.{List, _++_}
 use mathlib.Core.Bool.{Bool, true, false}
 use native.Mathlib.Omega.{arith}
@@ -11,47 +11,18 @@ use Rattle.layout.specs.declared.Made.the-variants.{Wrote}
 use Rattle.layout.specs.Bytes.{part, refusal}
 use Rattle.layout.specs.Shape.{Shape}
 use Rattle.layout.specs.Editions.{shape}
-use Rattle.layout.specs.Read.{limit}
 use Rattle.layout.specs.Write.{refuse, put, imageOf}
 use Rattle.output.specs.Lengths.{capped, sealedLength, fitsIn}
-use Rattle.output.specs.Placing.{copied, openingPlaced, valuePlaced, finished}
+use Rattle.output.specs.Placing.{copied, finished}
 use Rattle.output.proofs.Lengths.{capped-min}
 use Rattle.output.proofs.Overlay.{part-over, copied-over, length-copied, copied-then}
 use Rattle.output.proofs.Putting.{fits-room, put-not, put-fits}
-use Rattle.output.proofs.Rooms.{opening-copied, value-copied}
 use Rattle.editor.specs.declared.Fresh.{Fresh}
-use Rattle.editor.specs.declared.Fresh.the-variants.{Entry}
-use Rattle.editor.specs.Here.{freshBytes, Puttable, spliced}
+use Rattle.editor.specs.Here.{freshBytes, spliced}
 
 -- What was copied is read there.
 copied-stands : (d : List ℕ) (a : ℕ) (s : List ℕ) → a + length s ≤ length d → part a (length s) (copied d a s) ≡ s
 copied-stands d a s le = rw (copied-over d a s le) (part-over d a s (omega arith))
-
--- The length of a whole entry by sums that are cut off.
-pub capped-entry : (S : Shape) (c : ℕ) (key v : List ℕ) {k l n : ℕ} → k ≡ capped (length (S .opening c key)) → l ≡ capped (length (S .lens c (length v)) + length v) → n ≡ capped (k + l) →
-    n ≡ capped (length (freshBytes S (Entry c) key v))
-capped-entry S c key v {k} {l} p q r =
-    let o = S .opening c key in
-    let w = S .lens c (length v) in
-    omega (
-      arith,
-      length-append o (w ++ v),
-      length-append w v,
-      capped-min (length o),
-      capped-min (length w + length v),
-      capped-min (k + l),
-      capped-min (length (freshBytes S (Entry c) key v)),
-    )
-
--- What opens an entry and its value, side by side, are the entry.
-pub entry-laid : (S : Shape) (c : ℕ) (key v d : List ℕ) (a : ℕ) {d₁ d₂ : List ℕ} {k next : ℕ} → length d ≤ limit → Puttable S (Entry c) v → a + length (freshBytes S (Entry c) key v) ≤ length d →
-    d₁ ≡ openingPlaced S d a c key → k ≡ capped (length (S .opening c key)) → next ≡ a + k → d₂ ≡ valuePlaced S d₁ next c v → d₂ ≡ copied d a (freshBytes S (Entry c) key v)
-entry-laid S c key v d a {d₁ = d₁} {next = next} short ok fits p q n r =
-    let o = S .opening c key in
-    let w = S .lens c (length v) ++ v in
-    let opened = p ∙ opening-copied S d a c key (ok .0) short in
-    let same : length d₁ ≡ length d = ap length opened ∙ length-copied d a o in
-    copied-then d a o w opened (r ∙ value-copied S d₁ next c v (ok .1) (omega arith)) fits (omega (arith, length-append o w, capped-min (length o)))
 
 module _ (S : Shape) (x : Fresh) (key v front after : List ℕ) where
   pub length-spliced : length (spliced S x key v front after) ≡ length front + length (freshBytes S x key v) + length after

@@ -15,7 +15,7 @@ use Rattle.layout.specs.Shape.{Shape, Label}
 use Rattle.layout.specs.Editions.{chosen, names}
 use Rattle.layout.specs.Walk.{Raw, content, labelOf}
 use Rattle.layout.specs.Read.{limit, same}
-use Rattle.layout.specs.Write.{Outcome, refuse, put, imageOf, fieldKey, fieldContent, partsInside, writerRule}
+use Rattle.layout.specs.Write.{Outcome, refuse, put, imageOf, fieldContent, partsInside, writerRule}
 use Rattle.layout.specs.Change.{Allowed, allowed, denied}
 use Rattle.layout.specs.Edit.{editAsks}
 use Rattle.layout.specs.Remove.{removeAsks}

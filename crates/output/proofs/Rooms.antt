@@ -1,7 +1,7 @@
 -- What opens an entry and a value, where there is room for them.
 -- Assumes nothing.
 use Prim.Native.Nat.{ℕ, _+_, _≤_, _<_}
-use mathlib.Core.Path.{_≡_, refl, sym, _∙_}
+use mathlib.Core.Path.{_≡_, refl, ap, sym, _∙_}
 use mathlib.Core.List.{List, _++_}
 use mathlib.Core.Bool.{Bool, true, false, _&&_, and-assoc, and-false}
 use native.Mathlib.Omega.{arith}
@@ -14,6 +14,7 @@ use Rattle.laws.proofs.Choices.{both}
 use Rattle.output.specs.Lengths.{capped, hasRoom}
 use Rattle.output.specs.Placing.{copied, placed, openingPlaced, valuePlaced}
 use Rattle.output.proofs.Lengths.{capped-min, fits-alike}
+use Rattle.output.proofs.Overlay.{length-copied, copied-then}
 
 module _ (room a n : ℕ) where
   pub room-known : hasRoom room a n ≡ true → (room ≤ limit) × (a + n ≤ room)
@@ -62,3 +63,14 @@ module _ (S : Shape) (d : List ℕ) (a c : ℕ) (s : List ℕ) where
   pub value-not : S .lengthRule c (length s) ≡ false → d ≡ valuePlaced S d a c s
   unfolding valuePlaced
   value-not r = rw r
+
+-- what opens an entry, and its value side by side with it, are the entry; the length of the first is cut off
+pub entry-copied : (S : Shape) (c : ℕ) (key v d : List ℕ) (a : ℕ) {d₁ d₂ : List ℕ} {k next : ℕ} → length d ≤ limit → (c < 256) × (S .lengthRule c (length v) ≡ true) →
+    a + length (S .opening c key ++ (S .lens c (length v) ++ v)) ≤ length d → k ≡ capped (length (S .opening c key)) → d₁ ≡ openingPlaced S d a c key → next ≡ a + k → d₂ ≡ valuePlaced S d₁ next c v →
+    d₂ ≡ copied d a (S .opening c key ++ (S .lens c (length v) ++ v))
+entry-copied S c key v d a {d₁ = d₁} {next = next} short ok fits cut p n r =
+    let o = S .opening c key in
+    let w = S .lens c (length v) ++ v in
+    let opened = p ∙ opening-copied S d a c key (ok .0) short in
+    let same : length d₁ ≡ length d = ap length opened ∙ length-copied d a o in
+    copied-then d a o w opened (r ∙ value-copied S d₁ next c v (ok .1) (omega arith)) fits (omega (arith, length-append o w, capped-min (length o)))

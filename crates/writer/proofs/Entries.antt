@@ -14,10 +14,10 @@ use Rattle.layout.specs.Write.{fieldAt, fieldContent, fieldsIn, entryBytes, ent
 use Rattle.laws.specs.Grammar.{none, also}
 use Rattle.laws.proofs.Lists.{joined-append}
 use Rattle.output.specs.Lengths.{capped}
-use Rattle.output.specs.Placing.{over, copied, openingPlaced, valuePlaced}
+use Rattle.output.specs.Placing.{over, openingPlaced, valuePlaced}
 use Rattle.output.proofs.Lengths.{capped-min}
-use Rattle.output.proofs.Overlay.{length-over, over-nil, over-over, copied-over, length-copied, copied-then}
-use Rattle.output.proofs.Rooms.{opening-copied, value-copied}
+use Rattle.output.proofs.Overlay.{length-over, over-nil, over-over, copied-over}
+use Rattle.output.proofs.Rooms.{entry-copied}
 use Rattle.fields.proofs.Lists.{fields-step}
 use Rattle.writer.specs.Entries.{fieldBytes, fieldsBytes, Puttable, AllPuttable}
 
@@ -29,16 +29,14 @@ pub entry-put : (S : Shape) (c : Content) (d : List ℕ) (a : ℕ) → Puttable 
     d₂ ≡ valuePlaced S d₁ (a + k) (c .code) value → v ≡ capped (length (S .lens (c .code) (length value)) + length value) →
     (a + k + v ≡ a + length (entryBytes S c)) × (d₂ ≡ over d a (entryBytes S c))
 unfolding entryBytes
-entry-put S c d a ok short room {d₁ = d₁} {k = k} {v = v} p q e₁ e₂ e₃ e₄ =
+entry-put S c d a ok short room {k = k} {v = v} p q e₁ e₂ e₃ e₄ =
     let o : List ℕ = S .opening (c .code) (c .key) in
     let l : List ℕ = S .lens (c .code) (length (c .value)) in
     let all : length (o ++ (l ++ c .value)) ≡ length o + (length l + length (c .value)) = simp length-append refl in
     let k-is : k ≡ length o = omega (arith, capped-min (length o), rw p at e₁) in
     let v-is : v ≡ length l + length (c .value) = omega (arith, capped-min (length l + length (c .value)), rw q at e₄) in
-    let opened : d₁ ≡ copied d a o = (rw p at e₂) ∙ opening-copied S d a (c .code) (c .key) (ok .0) short in
-    let same : length d₁ ≡ length d = ap length opened ∙ length-copied d a o in
-    let then = (rw q at e₃) ∙ value-copied S d₁ (a + k) (c .code) (c .value) (ok .1) (omega arith) in
-    (omega arith, copied-then d a o (l ++ c .value) opened then room (omega arith) ∙ copied-over d a (o ++ (l ++ c .value)) room)
+    let laid = entry-copied S (c .code) (c .key) (c .value) d a short ok room (rw p at e₁) (rw p at e₂) refl (rw q at e₃) in
+    (omega arith, laid ∙ copied-over d a (o ++ (l ++ c .value)) room)
 
 -- ---- entry after entry
 

@@ -4,7 +4,8 @@ use borrow.Author.Needs.{needs}
 use denote.Ref.{now}
 use lib.ListN.{length-append}
 use Rattle.layout.specs.Editions.{shape}
-use Rattle.editor.proofs.Splicing.{capped-entry}
+use Rattle.layout.specs.Write.{entryBytes}
+use Rattle.rules.proofs.Judging.{entry-length}
 use Rattle.editor.proofs.fresh_length.Statement.{statement}
 use Rattle.editor.proofs.fresh_length.Tie as tie
 
@@ -36,9 +37,10 @@ returns-2 : tie.Need-returns-2
 returns-2 c = rw (c .before .before .x .given .1, length-append) (c .value-length .ensures)
 
 returns-3 : tie.Need-returns-3
+unfolding entryBytes
 returns-3 c =
     let a = c .before .before .before .before .before .before .before .before .args in
-    rw (c .before .before .before .before .x2 .given .1) (capped-entry (shape (a .format)) (c .before .before .before .before .x2 .given .0 .0) (now (a .key)) (now (a .value)) (c .before .before .opening-length .ensures) (c .before .value-length2 .ensures) (c .add-capped .ensures))
+    rw (c .before .before .before .before .x2 .given .1) (entry-length (shape (a .format)) (record { code = c .before .before .before .before .x2 .given .0 .0; key = now (a .key); value = now (a .value) }) _ _ _ (c .before .before .opening-length .ensures) (c .before .value-length2 .ensures) (c .add-capped .ensures))
 
 pub fresh-length-spec : {M : Type 1} → statement M
 fresh-length-spec =

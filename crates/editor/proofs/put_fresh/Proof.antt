@@ -9,8 +9,7 @@ use lib.ListN.{length, length-append}
 use Rattle.layout.specs.Editions.{shape}
 use Rattle.output.proofs.Lengths.{capped-min}
 use Rattle.output.proofs.Overlay.{copied-nil}
-use Rattle.output.proofs.Rooms.{value-copied}
-use Rattle.editor.proofs.Splicing.{entry-laid}
+use Rattle.output.proofs.Rooms.{value-copied, entry-copied}
 use Rattle.editor.proofs.put_fresh.Statement.{statement}
 use Rattle.editor.proofs.put_fresh.Tie as tie
 
@@ -67,8 +66,8 @@ returns-3 c =
     let a = b .args in
     let e = c .before .before .before .before .before .before .before .before .before .before .x2 .given .1 in
     rw e
-    (entry-laid (shape (a .format)) (c .before .before .before .before .before .before .before .before .before .before .x2 .given .0 .0) (now (a .key)) (now (a .value)) (now (a .out)) (a .at) (b .pre .0 .0) (rw e at (b .pre .0 .1)) (rw e at (b .pre .1))
-    (c .before .before .before .before .before .before .before .put-opening .ensures) (c .before .before .before .before .opening-length .ensures) refl (c .before .before .put-value2 .ensures))
+    (entry-copied (shape (a .format)) (c .before .before .before .before .before .before .before .before .before .before .x2 .given .0 .0) (now (a .key)) (now (a .value)) (now (a .out)) (a .at) (b .pre .0 .0) (rw e at (b .pre .0 .1)) (rw e at (b .pre .1))
+    (c .before .before .before .before .opening-length .ensures) (c .before .before .before .before .before .before .before .put-opening .ensures) refl (c .before .before .put-value2 .ensures))
 
 pub put-fresh-spec : {M : Type 1} → statement M
 put-fresh-spec =
