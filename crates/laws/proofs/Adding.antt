@@ -3,7 +3,7 @@
 use Prim.Native.Nat.{ℕ, suc, _≤_}
 use mathlib.Core.Path.{_≡_, refl, ap, sym, _∙_}
 use mathlib.Core.List.{List, [], _∷_, _++_, map}
-use mathlib.Core.Bool.{Bool, true, false, _&&_}
+use mathlib.Core.Bool.{Bool, true, false}
 use native.Mathlib.Omega.{arith}
 use lib.ListN.{length, length-append}
 use lib.Dec.{eqb}
@@ -24,7 +24,6 @@ use Rattle.layout.specs.Write.{partsInside, fieldContent, writerRule, entryByte
 use Rattle.layout.specs.Change.{bytesOf, laid, allowed, denied}
 use Rattle.layout.specs.Add.{labelsOf, mayAdd, addedEntries, addition}
 use Rattle.laws.specs.Grammar.{Grammar, grammar, Each, none, also, Lawful, noMore, andThen}
-use Rattle.laws.proofs.Format.{Laws}
 use Rattle.laws.proofs.Choices.{false-true, refuted, either, both}
 use Rattle.laws.proofs.Lists.{each-map, each-append, each-first, each-rest}
 use Rattle.laws.proofs.Seen.{and-true, labelCodes, seen-codes}

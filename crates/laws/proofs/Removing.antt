@@ -3,7 +3,7 @@
 use Prim.Native.Nat.{ℕ, zero, suc, _<_}
 use mathlib.Core.Path.{_≡_, refl, ap, sym, _∙_}
 use mathlib.Core.List.{List, [], _∷_, _++_, map}
-use mathlib.Core.Bool.{Bool, true, false, _&&_}
+use mathlib.Core.Bool.{Bool, true, false}
 use lib.ListN.{length}
 use lib.Dec.{eqb}
 use borrow.Author.Tests.{eq-eqb, ne-eqb}
@@ -11,7 +11,7 @@ use Rattle.layout.specs.Bytes.{if, oneOf, refusal}
 use Rattle.layout.specs.Shape.{Shape, Label}
 use Rattle.layout.specs.Walk.{Raw, Content, content, labelOf}
 use Rattle.layout.specs.Read.{complete, codesOf}
-use Rattle.layout.specs.Change.{bytesOf, allowed, denied}
+use Rattle.layout.specs.Change.{allowed, denied}
 use Rattle.layout.specs.Remove.{removeAsks, removal}
 use Rattle.laws.specs.Contents.{without}
 use Rattle.laws.specs.Grammar.{Grammar, New, Each, Lawful, noMore, andThen}

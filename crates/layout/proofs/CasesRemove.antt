@@ -7,7 +7,7 @@ use lib.ListN.{replicate}
 use Rattle.layout.specs.declared.Made.the-variants.{Wrote}
 use Rattle.layout.specs.Bytes.{refusal}
 use Rattle.layout.specs.Remove.{removeEntry}
-use Rattle.layout.proofs.Cases.{text, hex, fbossOf, five, withBlock, sku, twoNames, threeBytes, noTags, onieOf, noEntries, madeNumber}
+use Rattle.layout.proofs.Cases.{hex, fbossOf, five, withBlock, sku, twoNames, threeBytes, noTags, onieOf, noEntries, madeNumber}
 use Rattle.layout.proofs.Cases.{Case, sweeps, removes, unremoves, given, wanted}
 use Rattle.layout.proofs.CasesEdit.{skuAndFeh, batchAndPool, allTags}
 use Rattle.layout.proofs.CasesOnie.{board}

@@ -29,7 +29,7 @@ use Rattle.laws.proofs.Judging.{unseen}
 use Rattle.laws.proofs.Changing.{laid-flat}
 use Rattle.laws.proofs.Adding.{may-addable, fresh-shorter, Placed, atEnd, before, placed-after, alone, new-follows}
 use Rattle.laws.proofs.Calls.{Found, check-found, chosen-stands}
-use Rattle.promises.specs.Words.{Counts, Refuses, Item, here, there, tellsAdd}
+use Rattle.promises.specs.Words.{Refuses, Item, here, there, tellsAdd}
 use Rattle.promises.specs.Names.{Named}
 use Rattle.promises.specs.RoundTrip.{fieldSays}
 use Rattle.promises.specs.Written.{Fits}

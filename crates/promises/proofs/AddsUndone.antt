@@ -3,7 +3,6 @@
 use Prim.Native.Nat.{ℕ, _+_, _≤_}
 use mathlib.Core.Path.{_≡_, refl, ap, sym, _∙_}
 use mathlib.Core.List.{List, [], _∷_, map}
-use mathlib.Core.Bool.{false}
 use native.Mathlib.Omega.{arith}
 use lib.ListN.{length, take}
 use Rattle.layout.specs.declared.Format.{Format}
@@ -17,12 +16,11 @@ use Rattle.layout.specs.Write.{fieldContent, entryBytes, imageOf, Outcome, put}
 use Rattle.layout.specs.Change.{laid, Allowed, allowed, changeAllowed, changeRead, changeImage}
 use Rattle.layout.specs.Add.{addedEntries, addition, addField}
 use Rattle.layout.specs.Remove.{removal}
-use Rattle.laws.specs.Grammar.{grammar}
 use Rattle.laws.proofs.Changing.{laid-flat, in-place-bytes}
 use Rattle.laws.proofs.Adding.{Addable, may-addable, addedRaws, addedAt, removed-added, added-named, new-spare, add-leaves}
 use Rattle.laws.proofs.Removing.{Spare, removedRaws, removable-may}
 use Rattle.laws.proofs.Calls.{Reading, change-read}
-use Rattle.promises.specs.RemoveRule.{Undone, AddUndone, AddsUndone}
+use Rattle.promises.specs.RemoveRule.{Undone, AddsUndone}
 use Rattle.promises.proofs.Accepting.{reads}
 use Rattle.promises.proofs.Output.{put-fitting, put-took, took-readings, took-reads}
 use Rattle.promises.proofs.Written.{image-size}

@@ -16,7 +16,6 @@ use Rattle.laws.specs.Grammar.{grammar}
 use Rattle.laws.proofs.Lists.{length-map}
 use Rattle.laws.proofs.Editing.{Takes, may-editable, value-shorter, revalued-is}
 use Rattle.laws.proofs.Calls.{check-found}
-use Rattle.promises.specs.Words.{Counts, tellsEdit}
 use Rattle.promises.specs.EditRule.{Edited, EditRule}
 use Rattle.promises.proofs.Telling.{counts-accepted}
 use Rattle.promises.proofs.Written.{length-short}

@@ -1,7 +1,7 @@
 -- Which edits of an accepted image are taken: those of a named entry, with a value that meets its rule, where the edited image fits.
 -- Assumes nothing.
 use Prim.Native.Nat.{ℕ, zero, suc, _+_, _-_, _≤_}
-use mathlib.Core.Path.{_≡_, refl, ap, _∙_}
+use mathlib.Core.Path.{_≡_, refl, ap}
 use mathlib.Core.List.{List, [], _∷_}
 use mathlib.Core.Bool.{Bool, true, false}
 use native.Mathlib.Omega.{arith}
@@ -13,16 +13,12 @@ use Rattle.layout.specs.declared.Entry.{Entry}
 use Rattle.layout.specs.declared.Made.the-variants.{Wrote}
 use Rattle.layout.specs.Shape.{Shape}
 use Rattle.layout.specs.Editions.{shape, names}
-use Rattle.layout.specs.Fboss.{fboss}
 use Rattle.layout.specs.Vpd.{vpd}
-use Rattle.layout.specs.Tiny.{tiny}
-use Rattle.layout.specs.Onie.{onie}
 use Rattle.layout.specs.Walk.{Raw, flat}
 use Rattle.layout.specs.Calls.{entryOf, entriesOf}
 use Rattle.layout.specs.Read.{limit}
-use Rattle.layout.specs.Write.{imageOf}
-use Rattle.layout.specs.Change.{bytesOf, laid, laidOut, Allowed, allowed, denied, inPlace, changeAllowed}
-use Rattle.layout.specs.Edit.{revalued, editRule, edit, editEntry}
+use Rattle.layout.specs.Change.{laid, laidOut, Allowed, allowed, denied, inPlace, changeAllowed}
+use Rattle.layout.specs.Edit.{revalued, editRule, edit}
 use Rattle.laws.specs.Grammar.{grammar}
 use Rattle.laws.proofs.Format.{KeyLast}
 use Rattle.laws.proofs.Frames.{IsRaw, raw-size, raw-at}

@@ -5,10 +5,9 @@ use mathlib.Core.Path.{_≡_, refl, ap, sym, _∙_}
 use mathlib.Core.List.{List, [], _∷_, _++_, append-assoc, map}
 use mathlib.Core.Bool.{Bool, true, false}
 use lib.ListN.{length}
-use Rattle.layout.specs.declared.Format.{Format}
 use Rattle.layout.specs.Shape.{Shape}
 use Rattle.layout.specs.Editions.{shape, names}
-use Rattle.layout.specs.Walk.{Raw, Content, content, flat}
+use Rattle.layout.specs.Walk.{Raw, content, flat}
 use Rattle.layout.specs.Change.{bytesOf, laid, laidOut, inPlace, Change, changeImage}
 use Rattle.laws.specs.Grammar.{Grammar, grammar}
 use Rattle.laws.proofs.Lists.{joined-append}

@@ -30,7 +30,7 @@ use Rattle.laws.proofs.Calls.{Found, check-found}
 use Rattle.promises.specs.Words.{Refuses, Item, here, there, tellsRemove}
 use Rattle.promises.specs.Names.{Named}
 use Rattle.promises.specs.Written.{Fits}
-use Rattle.promises.specs.RemoveRule.{RemovedFrom, removedSize, RemoveTold, missing, unnamed, needed, tooLong, taken, Removes, RemoveRule}
+use Rattle.promises.specs.RemoveRule.{RemovedFrom, removedSize, RemoveTold, missing, unnamed, needed, tooLong, taken, RemoveRule}
 use Rattle.promises.proofs.Telling.{chosen-serves, counts-accepted}
 use Rattle.promises.proofs.Naming.{named-names, names-named}
 use Rattle.promises.proofs.PublishedRules.{raw-entry}
