@@ -1,4 +1,4 @@
-//! The ten calls of libboardid.a, as C declares them.
+//! The twelve calls of libboardid.a, as C declares them.
 //!
 //! A slice goes out as a pointer and a length, and a length of 0 goes with any pointer. Every call
 //! is safe where its pointers are good for their lengths and where what it writes overlaps nothing
@@ -93,6 +93,29 @@ extern "C" {
         offsets: u64,
         pieces: *const u8,
         pieces_length: usize,
+        out: *mut u8,
+        out_length: usize,
+    ) -> u64;
+
+    pub fn boardid_add(
+        format: u32,
+        edition: u32,
+        image: *const u8,
+        image_length: usize,
+        field: *const u8,
+        field_length: usize,
+        values: *const u8,
+        values_length: usize,
+        out: *mut u8,
+        out_length: usize,
+    ) -> u64;
+
+    pub fn boardid_remove(
+        format: u32,
+        edition: u32,
+        image: *const u8,
+        image_length: usize,
+        n: u64,
         out: *mut u8,
         out_length: usize,
     ) -> u64;

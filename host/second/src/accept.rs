@@ -16,6 +16,8 @@ pub(crate) struct Accepted<'a> {
     pub(crate) edition: Edition,
     pub(crate) image: &'a [u8],
     frames: Frames,
+    /// The entries that the edition names.
+    pub(crate) present: Present<'a>,
 }
 
 /// Accepts an image, or says what the image's check refuses first.
@@ -46,6 +48,7 @@ pub(crate) fn accept(format: u32, edition: u32, image: &[u8]) -> Result<Accepted
         edition,
         image,
         frames,
+        present,
     })
 }
 

@@ -1,4 +1,4 @@
-//! The ten calls in the byte form of the C interface.
+//! The twelve calls in the byte form of the C interface.
 //!
 //! Records, fields, walks, pieces and a vendor block lie in lent bytes as 32-bit words, low byte
 //! first, and a last one that is cut short counts as none. Every call answers with one 64-bit number. Its bits 59 to
@@ -73,6 +73,26 @@ pub fn write(format: u32, edition: u32, fields: &[u8], values: &[u8], out: &mut 
 /// Edits the value of entry `n` into a second buffer: the new image's length, its end included.
 pub fn edit(format: u32, edition: u32, image: &[u8], n: u64, value: &[u8], out: &mut [u8]) -> u64 {
     answer(crate::edit(format, edition, image, n, value, out).map(count))
+}
+
+/// Adds a field to an image into a second buffer: the new image's length, its end included.
+///
+/// A field that is cut short is none, and bytes past a whole one are not looked at.
+pub fn add(
+    format: u32,
+    edition: u32,
+    image: &[u8],
+    field: &[u8],
+    values: &[u8],
+    out: &mut [u8],
+) -> u64 {
+    let field = field.get(..FIELD).map(field_from);
+    answer(crate::add(format, edition, image, field, values, out).map(count))
+}
+
+/// Removes entry `n` of an image into a second buffer: the new image's length, its end included.
+pub fn remove(format: u32, edition: u32, image: &[u8], n: u64, out: &mut [u8]) -> u64 {
+    answer(crate::remove(format, edition, image, n, out).map(count))
 }
 
 /// Joins the payload of an image's vendor extensions into the buffer lent for it, and gives its parts

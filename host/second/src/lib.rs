@@ -1,9 +1,9 @@
 //! A second, independent implementation of the board-identity library.
 //!
-//! It reads, writes and edits images of four layouts: FBOSS v5 (format 1), VPD 2.0 (format 2), Tiny
+//! It reads, writes and changes images of four layouts: FBOSS v5 (format 1), VPD 2.0 (format 2), Tiny
 //! EEPROM version 2 (format 3) and ONIE (format 4), and reads and writes the vendor blocks of an ONIE
-//! image. It is written from the scope document (01) and the change requests (02, items 1, 3, 4, 5
-//! and 6) alone, so that its answers can be compared with those of the library proper. Clarity comes before
+//! image. It is written from the scope document (01) and the change requests (02, items 1 and
+//! 3 to 7) alone, so that its answers can be compared with those of the library proper. Clarity comes before
 //! speed here.
 //!
 //! No call panics, whatever it is given, and a refused call leaves lent memory as it was.
@@ -28,7 +28,7 @@ mod tests;
 
 pub use refusal::Refusal;
 pub use vendor::{vendor_read, vendor_write, Payload};
-pub use write::{edit, write};
+pub use write::{add, edit, remove, write};
 
 use accept::accept;
 use formats::{Format, POOL};
@@ -93,7 +93,7 @@ pub struct Entry {
     pub reading: Reading,
 }
 
-/// One field of a list to write. The places count bytes of the lent values.
+/// One field of a list to write, or one to add. The places count bytes of the lent values.
 #[derive(Clone, Copy, Debug, PartialEq, Eq)]
 pub struct Field {
     pub code: u32,

@@ -33,7 +33,7 @@ pub(crate) enum Reason {
     AfterPool = 9,
     /// The stored check is wrong.
     Check = 10,
-    /// A required field is missing.
+    /// A required field is missing, or is to be removed.
     Missing = 11,
     /// Too few records lent, the output or the buffer for a payload too small, a Tiny length above
     /// 255, or an ONIE length above 2,048.

@@ -3,6 +3,7 @@
 use crate::checks::{check16, check32, check8};
 use crate::*;
 
+mod add_and_remove;
 mod dates;
 mod frame_lengths;
 mod onie;
@@ -1743,6 +1744,7 @@ mod byte_form {
 
 /// Images and fields drawn at random, the same ones in every run.
 mod drawn {
+    use super::add_and_remove::{added, removed};
     use super::*;
 
     struct Draw(u64);
@@ -1881,6 +1883,9 @@ mod drawn {
                         assert_eq!(entry(format, edition, &image, 0), Err(refusal));
                         assert_eq!(value(format, edition, &image, 0), Err(refusal));
                         assert_eq!(edited(format, edition, &image, 0, b"", 9), Err(refusal));
+                        assert_eq!(removed(format, edition, &image, 0, 9), Err(refusal));
+                        let field = (1, &b"k"[..], &b"v"[..]);
+                        assert_eq!(added(format, edition, &image, field, 9), Err(refusal));
                         if format == TINY {
                             assert_eq!(string(format, edition, &image, 0), Err(refusal));
                         }
@@ -1923,6 +1928,7 @@ mod drawn {
                 }
             }
         }
+        add_and_remove::agree(format, edition, image, &entries);
         if count > 0 {
             assert_eq!(list(format, edition, image, count - 1), refused(12, 0));
         }
@@ -1997,6 +2003,9 @@ mod drawn {
                     .concat();
                 let mut edited = vec![0xA5; 120];
                 let mut written = vec![0xA5; 120];
+                let mut added = vec![0xA5; 120];
+                let mut removed = vec![0xA5; 120];
+                let values = b"01010101abcdefgh";
                 let answers = [
                     bytes::check(format, edition, &image),
                     bytes::list(format, edition, &image, &mut records),
@@ -2005,15 +2014,17 @@ mod drawn {
                     bytes::string(format, edition, &image, n),
                     bytes::step(&mut walk, &image, &mut stepped),
                     bytes::edit(format, edition, &image, n, &value, &mut edited),
-                    bytes::write(format, edition, &fields, b"01010101abcdefgh", &mut written),
+                    bytes::write(format, edition, &fields, values, &mut written),
+                    bytes::add(format, edition, &image, &fields, values, &mut added),
+                    bytes::remove(format, edition, &image, n, &mut removed),
                 ];
-                let moved = walk.split_off(8);
-                (answers, [records, record, stepped, moved, edited, written])
+                let made = [walk.split_off(8), edited, written, added, removed];
+                (answers, [records, record, stepped], made)
             };
             if format != ONIE {
                 assert_eq!(all(2), all(3));
             }
-            let (answers, [mut records, mut record, mut stepped, rest @ ..]) = all(4);
+            let (answers, [mut records, mut record, mut stepped], made) = all(4);
             let given = match answers[1] >> 59 {
                 0 => (answers[1] >> 32) as usize,
                 _ => 0,
@@ -2025,9 +2036,7 @@ mod drawn {
                 assert!(record[28..32] != [0; 4]);
                 record[28..32].fill(0);
             }
-            let [moved, edited, written] = rest;
-            let left = [records, record, stepped, moved, edited, written];
-            assert_eq!((answers, left), all(3));
+            assert_eq!((answers, [records, record, stepped], made), all(3));
         }
     }
 
@@ -2052,6 +2061,8 @@ mod drawn {
             bytes::step(&mut walk, &image, &mut record);
             bytes::write(format, edition, &fields, &values, &mut out);
             bytes::edit(format, edition, &image, n, &values, &mut out);
+            bytes::add(format, edition, &image, &fields, &values, &mut out);
+            bytes::remove(format, edition, &image, n, &mut out);
         }
     }
 }

@@ -1,14 +1,16 @@
-//! Making images: from a field list, or by editing one value of an accepted image.
+//! Making images: from a field list, or from an accepted image by editing one value, adding a field or
+//! removing an entry.
 
 use std::borrow::Cow;
 
-use crate::accept::{accept, Present};
+use crate::accept::{accept, Accepted, Present};
 use crate::checks::{check16, check32, check8};
 use crate::formats::{
-    known, not_too_long, Format, FBOSS_END, FBOSS_END_LENGTH, FBOSS_HEADER, ONIE_END,
+    known, not_too_long, Edition, Format, FBOSS_END, FBOSS_END_LENGTH, FBOSS_HEADER, ONIE_END,
     ONIE_END_LENGTH, ONIE_HEADER_LEN, ONIE_MAGIC, ONIE_VERSION, POOL, TINY_MAGIC, TINY_VERSION,
     VPD_END,
 };
+use crate::frames::Frame;
 use crate::names;
 use crate::refusal::{Reason, Refusal};
 use crate::Field;
@@ -31,16 +33,8 @@ pub fn write(
     let mut pool_seen = false;
     let mut body = Vec::new();
     for (number, field) in fields.iter().enumerate() {
-        let code = u8::try_from(field.code)
-            .ok()
-            .filter(|&code| names::is_named(format, edition, code))
-            .ok_or(Reason::NotNamed.at(number))?;
-        let not_inside = Reason::NoEntry.at(number);
-        let key = match format {
-            Format::Vpd => part(values, field.key_place, field.key_len).ok_or(not_inside)?,
-            Format::Fboss | Format::Tiny | Format::Onie => &[],
-        };
-        let value = part(values, field.value_place, field.value_len).ok_or(not_inside)?;
+        let code = named_code(format, edition, field).ok_or(Reason::NotNamed.at(number))?;
+        let (key, value) = parts(format, field, values).ok_or(Reason::NoEntry.at(number))?;
         if pool_seen {
             return Err(Reason::AfterPool.at(number));
         }
@@ -50,15 +44,8 @@ pub fn write(
         if !present.add(format, code, key) {
             return Err(Reason::Twice.at(number));
         }
-        pool_seen = format == Format::Tiny && code == POOL;
-
-        body.push(Cow::from(vec![code]));
-        if format == Format::Vpd {
-            body.push(Cow::from(vpd_length(key.len())));
-            body.push(Cow::from(key));
-        }
-        body.push(Cow::from(value_length(format, code, value)));
-        body.push(Cow::from(value));
+        pool_seen = is_pool(format, code);
+        put_entry(format, code, key, value, &mut body);
     }
     present.has_all_required(format)?;
 
@@ -78,18 +65,9 @@ pub fn edit(
     value: &[u8],
     out: &mut [u8],
 ) -> Result<usize, Refusal> {
-    known(format, edition)?;
-    not_too_long(out.len())?;
-    let accepted = accept(format, edition, image)?;
+    let accepted = accept_with_output(format, edition, image, out)?;
     let format = accepted.format;
-
-    let frame = usize::try_from(n)
-        .ok()
-        .and_then(|n| accepted.frames().get(n))
-        .ok_or(Reason::NoEntry.at(0))?;
-    if !names::is_named(format, accepted.edition, frame.code) {
-        return Err(Reason::NotNamed.at(frame.place));
-    }
+    let frame = named_entry(&accepted, n)?;
     // The key stays as it is, so it need only keep the reader's rule.
     let key = &image[frame.key.clone()];
     if !names::keeps_rule(format, frame.code, key, value) {
@@ -108,6 +86,134 @@ pub fn edit(
         Cow::from(&image[frame.value.end..accepted.end()]),
     ];
     deliver(format, &body, out)
+}
+
+/// Adds a field, whose parts lie in `values`, to an image as its last entry, or in Tiny as the last before
+/// the pool, into a second buffer, and gives the new image's length, its end included (02, Add and remove
+/// fields).
+///
+/// All entries of the image keep their bytes. Every output byte after the new image's end becomes FFh. No
+/// field is refused as one whose parts are not inside the values.
+pub fn add(
+    format: u32,
+    edition: u32,
+    image: &[u8],
+    field: Option<Field>,
+    values: &[u8],
+    out: &mut [u8],
+) -> Result<usize, Refusal> {
+    let mut accepted = accept_with_output(format, edition, image, out)?;
+    let format = accepted.format;
+
+    // Here the parts come before the code.
+    let not_inside = Reason::NoEntry.at(0);
+    let field = field.ok_or(not_inside)?;
+    let (key, value) = parts(format, &field, values).ok_or(not_inside)?;
+    let code = named_code(format, accepted.edition, &field).ok_or(Reason::NotNamed.at(0))?;
+    if !names::keeps_writers_rule(format, code, key, value) {
+        return Err(Reason::Rule.at(0));
+    }
+    if !accepted.present.add(format, code, key) {
+        return Err(Reason::Twice.at(0));
+    }
+
+    let place = match accepted.frames().last() {
+        Some(last) if is_pool(format, last.code) => last.place,
+        _ => accepted.end(),
+    };
+    let mut body = vec![Cow::from(&image[format.header_len()..place])];
+    put_entry(format, code, key, value, &mut body);
+    body.push(Cow::from(&image[place..accepted.end()]));
+    deliver(format, &body, out)
+}
+
+/// Removes entry `n` of an image into a second buffer and gives the new image's length, its end included
+/// (02, Add and remove fields).
+///
+/// All other entries keep their bytes. Every output byte after the new image's end becomes FFh.
+pub fn remove(
+    format: u32,
+    edition: u32,
+    image: &[u8],
+    n: u64,
+    out: &mut [u8],
+) -> Result<usize, Refusal> {
+    let accepted = accept_with_output(format, edition, image, out)?;
+    let format = accepted.format;
+    let frame = named_entry(&accepted, n)?;
+    // Nothing that is required may repeat, so this is the only one.
+    if names::required(format).contains(&frame.code) {
+        return Err(Reason::Missing.at(0));
+    }
+
+    let body = [
+        Cow::from(&image[format.header_len()..frame.place]),
+        Cow::from(&image[frame.place + frame.length..accepted.end()]),
+    ];
+    deliver(format, &body, out)
+}
+
+/// Accepts an image that is to be changed into an output, which may not be too long either.
+fn accept_with_output<'a>(
+    format: u32,
+    edition: u32,
+    image: &'a [u8],
+    out: &[u8],
+) -> Result<Accepted<'a>, Refusal> {
+    known(format, edition)?;
+    not_too_long(out.len())?;
+    accept(format, edition, image)
+}
+
+/// Entry `n` of an accepted image, where there is one and the edition names it.
+fn named_entry<'a>(accepted: &'a Accepted, n: u64) -> Result<&'a Frame, Refusal> {
+    let frame = usize::try_from(n)
+        .ok()
+        .and_then(|n| accepted.frames().get(n))
+        .ok_or(Reason::NoEntry.at(0))?;
+    if !names::is_named(accepted.format, accepted.edition, frame.code) {
+        return Err(Reason::NotNamed.at(frame.place));
+    }
+    Ok(frame)
+}
+
+/// The code of a field, where the edition names it.
+fn named_code(format: Format, edition: Edition, field: &Field) -> Option<u8> {
+    u8::try_from(field.code)
+        .ok()
+        .filter(|&code| names::is_named(format, edition, code))
+}
+
+/// The key and the value of a field, or nothing where one of them is not inside the lent values. Outside
+/// VPD the key is empty, whatever is given.
+fn parts<'a>(format: Format, field: &Field, values: &'a [u8]) -> Option<(&'a [u8], &'a [u8])> {
+    let key = match format {
+        Format::Vpd => part(values, field.key_place, field.key_len)?,
+        Format::Fboss | Format::Tiny | Format::Onie => &[],
+    };
+    let value = part(values, field.value_place, field.value_len)?;
+    Some((key, value))
+}
+
+fn is_pool(format: Format, code: u8) -> bool {
+    format == Format::Tiny && code == POOL
+}
+
+/// Puts the bytes of a new entry, with shortest lengths, at the end of a body. It keeps the writer's rule.
+fn put_entry<'a>(
+    format: Format,
+    code: u8,
+    key: &'a [u8],
+    value: &'a [u8],
+    body: &mut Vec<Cow<'a, [u8]>>,
+) {
+    body.push(Cow::from(vec![code]));
+    if format == Format::Vpd {
+        body.push(Cow::from(vpd_length(key.len())));
+        body.push(Cow::from(key));
+    }
+    body.push(Cow::from(value_length(format, code, value)));
+    body.push(Cow::from(value));
 }
 
 /// A part of the lent values, or nothing where it is not inside them.
