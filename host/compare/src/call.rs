@@ -1,4 +1,4 @@
-//! The ten calls with their arguments, made on the library and on the second reader.
+//! The twelve calls with their arguments, made on the library and on the second reader.
 
 use crate::lent::Lent;
 
@@ -14,10 +14,12 @@ pub enum Kind {
     Edit,
     VendorRead,
     VendorWrite,
+    Add,
+    Remove,
 }
 
 /// The calls' names, by kind.
-pub const NAMES: [&str; 10] = [
+pub const NAMES: [&str; 12] = [
     "check",
     "list",
     "entry",
@@ -28,6 +30,8 @@ pub const NAMES: [&str; 10] = [
     "edit",
     "vendor_read",
     "vendor_write",
+    "add",
+    "remove",
 ];
 
 /// One call. What its kind does not take stands at nothing.
@@ -39,9 +43,10 @@ pub struct Call<'a> {
     pub edition: u32,
     /// The entry's number, or the string's, or the offsets of a vendor write.
     pub n: u64,
-    /// The parts that are only read: the image, then the new value of an edit. Of a write, the
-    /// fields, then the values. Of a vendor write, the serial, then the pieces.
-    pub read: [&'a [u8]; 2],
+    /// The parts that are only read: the image, then the new value of an edit, or the field and the
+    /// values of an add. Of a write, the fields, then the values. Of a vendor write, the serial, then
+    /// the pieces.
+    pub read: [&'a [u8]; 3],
     /// The walk of a step, which is read and written.
     pub walk: &'a [u8],
     /// The length in bytes of the records, the record, the output or the payload.
@@ -58,7 +63,7 @@ impl<'a> Call<'a> {
             format,
             edition,
             n: 0,
-            read: [image, &[]],
+            read: [image, &[], &[]],
             walk: &[],
             room: 0,
             block: 0,
@@ -104,7 +109,26 @@ impl<'a> Call<'a> {
         Call {
             kind: Kind::Edit,
             n,
-            read: [self.read[0], value],
+            read: [self.read[0], value, &[]],
+            room,
+            ..self
+        }
+    }
+
+    pub fn add(self, field: &'a [u8], values: &'a [u8], room: usize) -> Call<'a> {
+        Call {
+            kind: Kind::Add,
+            read: [self.read[0], field, values],
+            room,
+            ..self
+        }
+    }
+
+    pub fn remove(self, n: u64, room: usize) -> Call<'a> {
+        let kind = Kind::Remove;
+        Call {
+            kind,
+            n,
             room,
             ..self
         }
@@ -119,7 +143,7 @@ impl<'a> Call<'a> {
     ) -> Call<'a> {
         Call {
             kind: Kind::Write,
-            read: [fields, values],
+            read: [fields, values, &[]],
             room,
             ..Call::check(format, edition, &[])
         }
@@ -146,7 +170,7 @@ impl<'a> Call<'a> {
         Call {
             kind: Kind::VendorWrite,
             n: offsets,
-            read: [serial, pieces],
+            read: [serial, pieces, &[]],
             room,
             ..Call::check(format, edition, &[])
         }
@@ -164,7 +188,9 @@ impl<'a> Call<'a> {
             numbers.push(("edition", self.edition.to_string()));
         }
         match self.kind {
-            Kind::Entry | Kind::Value | Kind::Edit => numbers.push(("n", self.n.to_string())),
+            Kind::Entry | Kind::Value | Kind::Edit | Kind::Remove => {
+                numbers.push(("n", self.n.to_string()))
+            }
             Kind::String => numbers.push(("number", self.n.to_string())),
             Kind::VendorWrite => numbers.push(("offsets", format!("{:#018X}", self.n))),
             _ => {}
@@ -177,6 +203,7 @@ impl<'a> Call<'a> {
         match self.kind {
             Kind::Write => &["fields", "values"],
             Kind::Edit => &["image", "value"],
+            Kind::Add => &["image", "field", "values"],
             Kind::VendorWrite => &["serial", "pieces"],
             _ => &["image"],
         }
@@ -188,7 +215,7 @@ impl<'a> Call<'a> {
             Kind::Check | Kind::Value | Kind::String => None,
             Kind::List => Some("records"),
             Kind::Entry | Kind::Step => Some("record"),
-            Kind::Write | Kind::Edit | Kind::VendorWrite => Some("out"),
+            Kind::Write | Kind::Edit | Kind::VendorWrite | Kind::Add | Kind::Remove => Some("out"),
             Kind::VendorRead => Some("payload"),
         }
     }
@@ -206,7 +233,7 @@ impl<'a> Call<'a> {
     /// The second reader's answer. `room` and `beside` are its copies of what the call may write.
     pub fn on_second(&self, room: &mut [u8], beside: &mut [u8]) -> u64 {
         use second::bytes;
-        let (f, e, [first, other]) = (self.format, self.edition, self.read);
+        let (f, e, [first, other, third]) = (self.format, self.edition, self.read);
         match self.kind {
             Kind::Check => bytes::check(f, e, first),
             Kind::List => bytes::list(f, e, first, room),
@@ -218,15 +245,18 @@ impl<'a> Call<'a> {
             Kind::Edit => bytes::edit(f, e, first, self.n, other, room),
             Kind::VendorRead => bytes::vendor_read(f, e, first, room, beside),
             Kind::VendorWrite => bytes::vendor_write(f, e, first, self.n, other, room),
+            Kind::Add => bytes::add(f, e, first, other, third, room),
+            Kind::Remove => bytes::remove(f, e, first, self.n, room),
         }
     }
 
     /// The library's answer. `read`, `room` and `beside` are its copies of what it is lent.
-    pub fn on_library(&self, read: &[Lent; 2], room: &mut Lent, beside: &mut Lent) -> u64 {
+    pub fn on_library(&self, read: &[Lent; 3], room: &mut Lent, beside: &mut Lent) -> u64 {
         use exports::*;
         let (f, e, n) = (self.format, self.edition, self.n);
         let (first, first_len) = (read[0].pointer(), read[0].len());
         let (other, other_len) = (read[1].pointer(), read[1].len());
+        let (third, third_len) = (read[2].pointer(), read[2].len());
         let (beside, beside_len) = (beside.written_pointer(), beside.len());
         let (out, out_len) = (room.written_pointer(), room.len());
         // Each pointer and its length come from one block, and no two parts share a block.
@@ -250,6 +280,10 @@ impl<'a> Call<'a> {
                 Kind::VendorWrite => {
                     boardid_vendor_write(f, e, first, first_len, n, other, other_len, out, out_len)
                 }
+                Kind::Add => boardid_add(
+                    f, e, first, first_len, other, other_len, third, third_len, out, out_len,
+                ),
+                Kind::Remove => boardid_remove(f, e, first, first_len, n, out, out_len),
             }
         }
     }

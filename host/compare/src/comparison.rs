@@ -3,6 +3,7 @@
 use std::collections::BTreeMap;
 
 use crate::call::{count, refusal, told, walk_bytes, Call, Kind, NAMES};
+use crate::changes;
 use crate::crash::{self, Input};
 use crate::frames;
 use crate::lent::{filled, Layout, Lent};
@@ -26,7 +27,7 @@ const SHOWN: usize = 1 << 20;
 const HIGHEST: usize = 20;
 
 /// The numbers that each call can give back (01, Numbers given back; 02), in the order of `NAMES`.
-const CAN_GIVE: [&[usize]; 10] = [
+const CAN_GIVE: [&[usize]; 12] = [
     &[1, 2, 3, 4, 5, 6, 7, 8, 9, 10, 11, 16],
     &[1, 2, 3, 4, 5, 6, 7, 8, 9, 10, 11, 12, 16],
     &[1, 2, 3, 4, 5, 6, 7, 8, 9, 10, 11, 12, 13, 16],
@@ -37,6 +38,8 @@ const CAN_GIVE: [&[usize]; 10] = [
     &[1, 2, 3, 4, 5, 6, 7, 8, 9, 10, 11, 12, 13, 14, 16],
     &[1, 2, 3, 4, 5, 6, 7, 8, 10, 12, 16, 17, 18, 19, 20],
     &[1, 2, 12, 16, 18],
+    &[1, 2, 3, 4, 5, 6, 7, 8, 9, 10, 11, 12, 13, 14, 16],
+    &[1, 2, 3, 4, 5, 6, 7, 8, 9, 10, 11, 12, 13, 14, 16],
 ];
 
 /// The readings of a record, by number.
@@ -61,7 +64,7 @@ pub struct Tally {
     /// Differences by call, by the number that the library gave back and by the second reader's.
     differing: BTreeMap<(usize, usize, usize), u64>,
     /// Calls by kind and by the number given back, 0 where nothing was refused.
-    pub answers: [[u64; HIGHEST + 1]; 10],
+    pub answers: [[u64; HIGHEST + 1]; 12],
     /// Records given, by reading.
     pub readings: [u64; READINGS.len()],
     /// Records given with kind 0.
@@ -243,7 +246,7 @@ impl Comparison {
 
         let layout = self.layout;
         let mut lend = |bytes: &[u8]| Lent::copy_of(bytes, layout, self.salt());
-        let read = [lend(call.read[0]), lend(call.read[1])];
+        let read = call.read.map(&mut lend);
         let mut lent_room = lend(&before);
         let mut lent_beside = lend(&before_beside);
         let from_library = call.on_library(&read, &mut lent_room, &mut lent_beside);
@@ -278,7 +281,9 @@ impl Comparison {
             &beside,
         );
 
-        if let Some(what) = wrong_frames(call, from_library, lent_room.bytes()) {
+        let by_bytes = wrong_frames(call, from_library, lent_room.bytes())
+            .or_else(|| changes::wrong(call, from_library, lent_room.bytes()));
+        if let Some(what) = by_bytes {
             wrong.push(format!("by the image's bytes: {what}"));
         }
 
@@ -301,10 +306,14 @@ impl Comparison {
         }
     }
 
-    /// Lists what a write or an edit of the library made, as the newest edition: the whole output, and its
-    /// part up to the length given. What an older edition made may be an image that the newest refuses.
+    /// Lists what a call of the library made, as the newest edition: the whole output, and its part up to the
+    /// length given. What an older edition made may be an image that the newest refuses.
     fn frames_of_output(&mut self, call: &Call, answer: u64, out: &[u8]) {
-        if refusal(answer) != 0 || !matches!(call.kind, Kind::Write | Kind::Edit) {
+        let makes_image = matches!(
+            call.kind,
+            Kind::Write | Kind::Edit | Kind::Add | Kind::Remove
+        );
+        if refusal(answer) != 0 || !makes_image {
             return;
         }
         let mut images = vec![out];
@@ -356,6 +365,11 @@ impl Comparison {
             }
             self.differs(call, &wrong, given, given);
         }
+    }
+
+    /// Says that a call's result is not what a document has of it.
+    pub fn wrong(&mut self, call: &Call, what: &str, answer: u64) {
+        self.differs(call, what, answer, answer);
     }
 
     /// Makes a vendor call whose answer is known from a document, and what it puts at the front of what

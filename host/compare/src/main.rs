@@ -10,6 +10,7 @@
 
 mod call;
 mod cases;
+mod changes;
 mod comparison;
 mod crash;
 mod frames;
@@ -232,6 +233,11 @@ fn perform(options: &Options, task: usize, what: Task) -> Outcome {
     }
 }
 
+/// Whether every image of a format is a small one.
+fn has_small_images(format: Format) -> bool {
+    matches!(format, Format::Tiny | Format::Onie)
+}
+
 /// Draws one input of a format and makes the calls on it.
 fn generated(compare: &mut Comparison, random: &mut Random, format: Format) {
     // Of ONIE there are vendor blocks besides.
@@ -254,6 +260,11 @@ fn generated(compare: &mut Comparison, random: &mut Random, format: Format) {
         }
         5..=29 => {
             let image = damage::noise(random, format);
+            plan::on_image(compare, random, format, &image);
+        }
+        // Large ones take long.
+        30..=59 if random.once_in(if has_small_images(format) { 1 } else { 30 }) => {
+            let image = generate::nearly_full(random, format).bytes();
             plan::on_image(compare, random, format, &image);
         }
         30..=299 => {

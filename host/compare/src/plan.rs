@@ -1,14 +1,16 @@
 //! Which calls are made on an image, a field list or a vendor write.
 
-use images::fields::List;
+use images::fields::{to_add, to_fill, List, There};
 use images::generate::{kept, offered};
 use images::image::{Format, LONGEST, ONIE_LONGEST};
 use images::onie::EXTENSION;
 use images::random::Random;
 use images::vendor::{self, Writing, PREFIX};
 
-use crate::call::{block_bytes, count, refusal, walk_bytes, Call};
+use crate::call::{block_bytes, count, refusal, walk_bytes, Call, Kind};
+use crate::changes;
 use crate::comparison::{Comparison, BLOCK, RECORD};
+use crate::frames;
 
 /// Formats and editions that are none, beside those that are.
 const FORMATS: [u32; 11] = [0, 1, 2, 3, 4, 5, 257, 258, 259, 260, u32::MAX];
@@ -24,16 +26,17 @@ const LONGEST_PAYLOAD: usize = 271;
 /// Every call on one image, as every edition that has its format, with all that is at the edges of
 /// its arguments.
 pub fn on_image(compare: &mut Comparison, random: &mut Random, format: Format, image: &[u8]) {
+    let former = Former::of(format, image);
     for &edition in format.editions() {
         let check = Call::check(format.number(), edition, image);
         let (answer, _) = compare.call(&check);
         let entries = count(answer);
         if refusal(answer) != 0 {
-            on_refused(compare, random, &check);
-        } else if entries > MANY || image.len() > LONG {
-            on_large(compare, random, format, &check, entries);
+            on_refused(compare, random, format, &check);
+        } else if former.is_large() {
+            on_large(compare, random, &former, &check, entries);
         } else {
-            on_accepted(compare, random, format, &check, entries);
+            on_accepted(compare, random, &former, &check, entries);
         }
     }
     with_other_arguments(compare, random, format, image);
@@ -41,7 +44,7 @@ pub fn on_image(compare: &mut Comparison, random: &mut Random, format: Format, i
 }
 
 /// Calls on an image that check refuses: each must give the same refusal.
-fn on_refused(compare: &mut Comparison, random: &mut Random, check: &Call) {
+fn on_refused(compare: &mut Comparison, random: &mut Random, format: Format, check: &Call) {
     let value = random.bytes(4);
     let n = number(random, 3);
     let room = record_room(random);
@@ -52,6 +55,9 @@ fn on_refused(compare: &mut Comparison, random: &mut Random, check: &Call) {
     compare.call(&check.step(&walk_bytes(check.format, check.edition, n), room));
     let room = output_room(random, check.read[0].len());
     compare.call(&check.edit(n, &value, room));
+    compare.call(&check.remove(n, room));
+    let new = to_add(random, format, check.edition, &[]);
+    compare.call(&check.add(&new.bytes(), &new.values, room));
     if check.format == Format::Onie.number() {
         let room = output_room(random, LONGEST_PAYLOAD);
         compare.call(&check.vendor_read(room, block_room(random)));
@@ -61,7 +67,7 @@ fn on_refused(compare: &mut Comparison, random: &mut Random, check: &Call) {
 fn on_accepted(
     compare: &mut Comparison,
     random: &mut Random,
-    format: Format,
+    former: &Former,
     check: &Call,
     entries: usize,
 ) {
@@ -83,10 +89,20 @@ fn on_accepted(
         _ => 6,
     };
     for n in (first..entries).chain(0..first).take(edited) {
-        edits(compare, random, format, check, n);
+        edits(compare, random, former.format, check, n);
     }
     let n = number(random, entries);
     compare.call(&check.edit(n, b"1", check.read[0].len() + 1));
+    adds(compare, random, former, check);
+    let removed = match random.below(10) {
+        0 => entries,
+        _ => 1,
+    };
+    for n in (first..entries).chain(0..first).take(removed) {
+        removal(compare, random, former, check, n);
+    }
+    let n = number(random, entries);
+    compare.call(&check.remove(n, output_room(random, check.read[0].len())));
     written_again(compare, random, check);
     vendor_reads(compare, random, check);
 }
@@ -94,7 +110,7 @@ fn on_accepted(
 fn on_large(
     compare: &mut Comparison,
     random: &mut Random,
-    format: Format,
+    former: &Former,
     check: &Call,
     entries: usize,
 ) {
@@ -107,8 +123,20 @@ fn on_large(
     walk(compare, random, check, entries.saturating_sub(2) as u64);
     if entries > 0 {
         let n = random.below(entries);
-        edits(compare, random, format, check, n);
-        edits(compare, random, format, check, entries - 1);
+        edits(compare, random, former.format, check, n);
+        edits(compare, random, former.format, check, entries - 1);
+    }
+    match random.below(3) {
+        0 => adds(compare, random, former, check),
+        1 if entries > 0 => {
+            let n = random.below(entries);
+            removal(compare, random, former, check, n);
+        }
+        _ => {
+            if let Some(n) = former.named(random, check.edition) {
+                removal(compare, random, former, check, n);
+            }
+        }
     }
     written_again(compare, random, check);
     vendor_reads(compare, random, check);
@@ -165,6 +193,173 @@ fn edits(compare: &mut Comparison, random: &mut Random, format: Format, check: &
     into_outputs(compare, random, &check.edit(n, &value, 0));
 }
 
+/// An image, and its lists as the editions that accept it give them.
+struct Former<'a> {
+    format: Format,
+    image: &'a [u8],
+    lists: Vec<(u32, Vec<second::Entry>)>,
+}
+
+/// The code, key and value of an entry.
+type Triple<'a> = (u32, &'a [u8], &'a [u8]);
+
+impl<'a> Former<'a> {
+    fn of(format: Format, image: &'a [u8]) -> Former<'a> {
+        let lists = format.editions().iter().filter_map(|&edition| {
+            let list = second::list(format.number(), edition, image, usize::MAX);
+            Some((edition, list.ok()?))
+        });
+        Former {
+            format,
+            image,
+            lists: lists.collect(),
+        }
+    }
+
+    /// Whether the image is one that is called on less often.
+    fn is_large(&self) -> bool {
+        let many = self.lists.iter().any(|(_, list)| list.len() > MANY);
+        many || self.image.len() > LONG
+    }
+
+    fn list(&self, edition: u32) -> &[second::Entry] {
+        let mut lists = self.lists.iter();
+        lists
+            .find(|(other, _)| *other == edition)
+            .map_or(&[], |(_, list)| list)
+    }
+
+    fn triples(&self, list: &[second::Entry]) -> Vec<Triple<'a>> {
+        let part = |place: u32, length: u32| &self.image[place as usize..][..length as usize];
+        let triple = |entry: &second::Entry| {
+            let key = part(entry.key_place, entry.key_len);
+            (entry.code, key, part(entry.value_place, entry.value_len))
+        };
+        list.iter().map(triple).collect()
+    }
+
+    /// One of the entries that an edition names.
+    fn named(&self, random: &mut Random, edition: u32) -> Option<usize> {
+        let list = self.list(edition);
+        let named: Vec<usize> = (0..list.len()).filter(|&n| list[n].kind != 0).collect();
+        (!named.is_empty()).then(|| random.pick(&named))
+    }
+}
+
+/// Adds to an accepted image: a field of any kind, and in some one that fills it to the last byte, or is one
+/// byte too long for that. What was added is removed again, which leaves the entries that there were.
+fn adds(compare: &mut Comparison, random: &mut Random, former: &Former, check: &Call) {
+    let (format, image) = (former.format, former.image);
+    let triples = former.triples(former.list(check.edition));
+    let there: Vec<There> = triples
+        .iter()
+        .map(|&(code, key, _)| (code as u8, key))
+        .collect();
+    let ended = changes::ended(format, image);
+    let left = longest(format) - ended.len();
+    // A value of thousands of bytes takes long.
+    let often = if left < 64 { 2 } else { 16 + left / 64 };
+    let mut news = Vec::new();
+    if random.once_in(often) {
+        news.push(to_fill(random, format, check.edition, &there, left));
+    }
+    if news.is_empty() || !former.is_large() {
+        news.push(to_add(random, format, check.edition, &there));
+    }
+    for new in news {
+        let field = new.bytes();
+        let add = check.add(&field, &new.values, 0);
+        let Some(made) = into_outputs(compare, random, &add) else {
+            continue;
+        };
+        let number = changes::new_number(format, image);
+        reads_on(compare, random, former, &add, &made, number);
+        let remove = Call::check(check.format, check.edition, &made);
+        let remove = remove.remove(number as u64, ended.len());
+        let length = (ended.len() as u64) << 32;
+        compare.case("what was added, removed", &remove, length, Some(&ended));
+    }
+}
+
+/// The length of the longest image of a format.
+fn longest(format: Format) -> usize {
+    match format {
+        Format::Fboss | Format::Vpd => LONGEST,
+        Format::Tiny => 255,
+        Format::Onie => ONIE_LONGEST,
+    }
+}
+
+/// The removal of one entry.
+fn removal(compare: &mut Comparison, random: &mut Random, former: &Former, check: &Call, n: usize) {
+    let remove = check.remove(n as u64, 0);
+    if let Some(made) = into_outputs(compare, random, &remove) {
+        reads_on(compare, random, former, &remove, &made, n);
+    }
+}
+
+/// Holds what an add or a removal made to what is then read: every edition from the call's own on that
+/// accepted the image accepts it still, and lists the former codes, keys and values with that entry added or
+/// gone.
+fn reads_on(
+    compare: &mut Comparison,
+    random: &mut Random,
+    former: &Former,
+    call: &Call,
+    made: &[u8],
+    number: usize,
+) {
+    let mut image = made.to_vec();
+    if random.once_in(2) {
+        // As a whole output has it.
+        image.resize(LONGEST.min(made.len() + random.below(30)), 0xFF);
+    }
+    let newer = former.lists.iter();
+    let mut newer: Vec<_> = newer
+        .filter(|(edition, _)| *edition >= call.edition)
+        .collect();
+    if former.is_large() {
+        // One of them.
+        random.shuffle(&mut newer);
+        newer.truncate(1);
+    }
+    for (edition, list) in newer {
+        let mut triples = former.triples(list);
+        match call.kind {
+            Kind::Add => triples.insert(number, added(former.format, call.read[1], call.read[2])),
+            _ => {
+                triples.remove(number);
+            }
+        }
+        let check = Call::check(call.format, *edition, &image);
+        let (answer, records) = compare.call(&check.list(triples.len() * RECORD));
+        let given: Vec<Triple> = records
+            .chunks_exact(RECORD)
+            .take(count(answer))
+            .map(|record| {
+                let word = |number| frames::word(record, number) as usize;
+                let part = |number| &image[word(number)..][..word(number + 1)];
+                (word(0) as u32, part(3), part(5))
+            })
+            .collect();
+        if refusal(answer) != 0 || given != triples {
+            let what = format!("edition {edition} does not read the former list but for the entry");
+            compare.wrong(call, &what, answer);
+        }
+    }
+}
+
+/// The code, key and value of a field that was added.
+fn added<'a>(format: Format, field: &[u8], values: &'a [u8]) -> Triple<'a> {
+    let word = |number| frames::word(field, number) as usize;
+    let part = |number| &values[word(number)..][..word(number + 1)];
+    let key = match format {
+        Format::Vpd => part(1),
+        _ => &[],
+    };
+    (word(0) as u32, key, part(3))
+}
+
 /// A write of an image's own entries, whose keys and values are lent as they lie in the image. A VPD
 /// name that only a reader takes is refused at its number, and so is an unnamed code.
 fn written_again(compare: &mut Comparison, random: &mut Random, check: &Call) {
@@ -183,8 +378,8 @@ fn written_again(compare: &mut Comparison, random: &mut Random, check: &Call) {
     into_outputs(compare, random, &call);
 }
 
-/// Makes a write, an edit or a vendor write into outputs on both sides of the line.
-pub fn into_outputs(compare: &mut Comparison, random: &mut Random, call: &Call) {
+/// Makes a call that puts something out into outputs on both sides of the line, and gives what it puts out.
+pub fn into_outputs(compare: &mut Comparison, random: &mut Random, call: &Call) -> Option<Vec<u8>> {
     let lent: usize = call.read.iter().map(|part| part.len()).sum();
     // With an output of any length the answer's length is known, or the refusal.
     let mut out = vec![0; LONGEST.min(2 * lent + 512)];
@@ -193,12 +388,14 @@ pub fn into_outputs(compare: &mut Comparison, random: &mut Random, call: &Call) 
     match refusal(answer) {
         0 => {
             let length = count(answer);
-            compare.call(&with(length));
+            let (_, made) = compare.call(&with(length));
             compare.call(&with(length - 1));
             compare.call(&with(output_room(random, length)));
+            Some(made)
         }
         _ => {
             compare.call(&with(output_room(random, lent)));
+            None
         }
     }
 }
@@ -321,23 +518,27 @@ fn any_format_and_edition(random: &mut Random, format: Format) -> (u32, u32) {
 }
 
 /// A call with any format and any edition, and with numbers that are no entry's.
-fn with_other_arguments(
-    compare: &mut Comparison,
-    random: &mut Random,
-    format: Format,
-    image: &[u8],
-) {
-    let (format, edition) = any_format_and_edition(random, format);
+fn with_other_arguments(compare: &mut Comparison, random: &mut Random, own: Format, image: &[u8]) {
+    let (format, edition) = any_format_and_edition(random, own);
     let check = Call::check(format, edition, image);
     let n = number(random, 2);
     let room = record_room(random);
-    match random.below(7) {
+    match random.below(9) {
         0 => compare.call(&check),
         1 => compare.call(&check.list(random.pick(&[0, 64, 700]))),
         2 => compare.call(&check.entry(n, room)),
         3 => compare.call(&check.value(n)),
         4 => compare.call(&check.string(n)),
         5 => compare.call(&check.step(&walk_bytes(format, edition, n), room)),
+        6 => {
+            let room = output_room(random, image.len());
+            compare.call(&check.remove(n, room))
+        }
+        7 => {
+            let new = to_add(random, own, own.editions()[0], &[]);
+            let room = output_room(random, image.len());
+            compare.call(&check.add(&new.bytes(), &new.values, room))
+        }
         _ => {
             let room = output_room(random, image.len());
             compare.call(&check.edit(n, b"x", room))
@@ -365,6 +566,19 @@ pub fn on_fields(
 
 /// All calls on every beginning of an image.
 pub fn on_beginnings(compare: &mut Comparison, format: Format, image: &[u8]) {
+    // A field that each edition of the format names.
+    let code = match format {
+        Format::Fboss => 12,
+        Format::Vpd => 1,
+        Format::Tiny => 0x11,
+        Format::Onie => EXTENSION,
+    };
+    let mut new = List::default();
+    match code {
+        EXTENSION => new.add(code.into(), &[], b"KEY1"),
+        _ => new.add(code.into(), b"KEY", b"1"),
+    }
+    let field = new.bytes();
     for length in 0..=image.len() {
         for &edition in format.editions() {
             let check = Call::check(format.number(), edition, &image[..length]);
@@ -375,6 +589,8 @@ pub fn on_beginnings(compare: &mut Comparison, format: Format, image: &[u8]) {
             compare.call(&check.string(0));
             compare.call(&check.step(&walk_bytes(check.format, edition, 0), RECORD));
             compare.call(&check.edit(0, b"B", length + 8));
+            compare.call(&check.remove(0, length));
+            compare.call(&check.add(&field, &new.values, length + 16));
             compare.call(&check.vendor_read(LONGEST_PAYLOAD, BLOCK));
         }
     }

@@ -1,7 +1,8 @@
-//! Generated field lists for a write.
+//! Generated field lists for a write, and fields to be added to an image.
 
 use crate::generate::{broken, kept, named, offered};
-use crate::image::{Format, LONGEST, POOL, VPD_INFO, VPD_STRING};
+use crate::image::{Entry, Format, LONGEST, POOL, VPD_INFO, VPD_STRING};
+use crate::onie::EXTENSION;
 use crate::random::Random;
 use crate::vpd::{self, Rule};
 use crate::{dates, fboss, onie};
@@ -13,6 +14,9 @@ type Field = [u32; 5];
 const CODE: usize = 0;
 const KEY: usize = 1;
 const VALUE: usize = 3;
+
+/// An entry that an image has, by code and key.
+pub type There<'a> = (u8, &'a [u8]);
 
 /// A field list and the values in which its parts lie.
 #[derive(Default)]
@@ -145,7 +149,7 @@ fn codes(random: &mut Random, format: Format, edition: u32) -> Vec<u8> {
                 .filter(|_| random.once_in(often))
                 .collect();
             let more = random.pick(&[0, 0, 1, 3]);
-            codes.extend(vec![onie::EXTENSION; more]);
+            codes.extend(vec![EXTENSION; more]);
             codes
         }
     }
@@ -247,6 +251,135 @@ fn break_rule(random: &mut Random, format: Format, list: &mut List, at: usize) {
         let value = list.part(&value);
         list.fields[at][VALUE..].copy_from_slice(&value);
     }
+}
+
+/// A field to be added to an image that has these entries: a new one in most, with something wrong in some.
+///
+/// It is lent whole, but for a few: cut short, nothing at all, or with bytes after it.
+pub fn to_add(random: &mut Random, format: Format, edition: u32, there: &[There]) -> List {
+    let codes = named(format, edition);
+    let missing: Vec<u8> = codes
+        .iter()
+        .copied()
+        .filter(|&code| may_be_added(format, code, there))
+        .collect();
+    let code = match random.below(8) {
+        // One that is there, or that some edition names, or none.
+        0 => random.pick(&[
+            0, 1, 2, 13, 17, 20, 21, 0x10, 0x26, 0x81, 250, EXTENSION, 254, 255,
+        ]),
+        1 if !there.is_empty() => random.pick(there).0,
+        2 => random.pick(&named(format, 3)),
+        _ if missing.is_empty() => random.pick(&codes),
+        _ => random.pick(&missing),
+    };
+    let key = match format {
+        Format::Vpd => key_to_add(random, code, there),
+        _ => Vec::new(),
+    };
+    let value = match random.below(8) {
+        0 => offered(random, format, code),
+        _ => kept(random, format, code),
+    };
+    let mut list = List::default();
+    if random.once_in(4) {
+        let gap = random.between(1, 9);
+        list.values = random.bytes(gap);
+    }
+    list.add(code.into(), &key, &value);
+    if random.once_in(4) {
+        let gap = random.between(1, 9);
+        list.values.extend(random.bytes(gap));
+    }
+    if format != Format::Vpd && random.once_in(2) {
+        // Outside VPD a key is not looked at, wherever it lies.
+        list.fields[0][KEY] = random.number() as u32;
+        list.fields[0][KEY + 1] = random.number() as u32;
+    }
+    if random.once_in(5) {
+        spoil(random, format, &mut list);
+    }
+    match random.below(24) {
+        0 => {
+            let length = random.pick(&[0, 1, 4, 16, 18, 19, 19]);
+            list.cut = list.bytes();
+            list.cut.truncate(length);
+            list.fields.clear();
+        }
+        1 => {
+            let more = random.pick(&[1, 19, 20, 21]);
+            list.cut = random.bytes(more);
+        }
+        _ => {}
+    }
+    list
+}
+
+/// Whether a named code may come once more.
+fn may_be_added(format: Format, code: u8, there: &[There]) -> bool {
+    let repeats = match format {
+        Format::Vpd => code == VPD_STRING,
+        Format::Onie => code == EXTENSION,
+        Format::Fboss | Format::Tiny => false,
+    };
+    repeats || there.iter().all(|&(other, _)| other != code)
+}
+
+/// A key for a new VPD entry: one that a writer takes in most, else one that only a reader takes, or one
+/// that is there or differs little from it.
+fn key_to_add(random: &mut Random, code: u8, there: &[There]) -> Vec<u8> {
+    match random.below(8) {
+        0 => vpd::broken_key(random, Rule::Writer),
+        1 => vpd::kept_key(random, Rule::Reader, code),
+        2 if !there.is_empty() => random.pick(there).1.to_vec(),
+        3 if !there.is_empty() => match random.pick(there) {
+            (_, b"") => b"k".to_vec(),
+            (_, key) => vpd::similar_key(random, Rule::Writer, key),
+        },
+        _ => vpd::kept_key(random, Rule::Writer, code),
+    }
+}
+
+/// A field whose entry has as many bytes as are left in an image, or one more, where a named code of any
+/// length is not there yet; and where none is, any field.
+pub fn to_fill(
+    random: &mut Random,
+    format: Format,
+    edition: u32,
+    there: &[There],
+    left: usize,
+) -> List {
+    let of_any_length: &[u8] = match format {
+        Format::Fboss => &[2, 6, 7, 12, 14, 15, 16],
+        Format::Vpd => &[VPD_STRING],
+        Format::Tiny => &[POOL],
+        Format::Onie => &[0x21, 0x22, 0x23, 0x2B, 0x2D, EXTENSION],
+    };
+    let codes: Vec<u8> = of_any_length
+        .iter()
+        .copied()
+        .filter(|&code| may_be_added(format, code, there))
+        .collect();
+    let length = left + random.below(2);
+    if codes.is_empty() || length < 3 {
+        return to_add(random, format, edition, there);
+    }
+    let code = random.pick(&codes);
+    let mut list = List::default();
+    let mut entry = match format {
+        Format::Vpd => Entry::with_key(code, vpd::kept_key(random, Rule::Writer, code), Vec::new()),
+        _ => Entry::new(code, Vec::new()),
+    };
+    // A longer value may need a longer length, so that one length in a few can't be met.
+    let around = entry.bytes(format).len();
+    for more in 0..3 {
+        entry.value = vec![b'x'; length.saturating_sub(around + more)];
+        if entry.bytes(format).len() <= length {
+            break;
+        }
+    }
+    list.add(code.into(), &entry.key, &entry.value);
+    list
 }
 
 /// A list whose image has thousands of bytes, or more than an output may have.

@@ -123,3 +123,25 @@ pub fn large(random: &mut Random, format: Format) -> Image {
     }
     image
 }
+
+/// An image that has as many bytes as one can have, or a few less, so that little or nothing can be added.
+pub fn nearly_full(random: &mut Random, format: Format) -> Image {
+    let less = match random.below(3) {
+        0 => random.below(4),
+        _ => random.below(40),
+    };
+    let value_length = random.pick(&[20, 255]);
+    let entries = match format {
+        Format::Fboss => fboss::filling(random, LONGEST - less, value_length),
+        Format::Vpd => {
+            let rule = random.pick(&[Rule::Reader, Rule::Writer]);
+            let value_length = random.pick(&[255, 700, LONGEST]);
+            vpd::filling(random, rule, LONGEST - less, value_length)
+        }
+        Format::Tiny => tiny::filling(random, less),
+        Format::Onie => onie::filling(random, ONIE_LONGEST - less, value_length),
+    };
+    let mut image = Image::new(format, entries);
+    image.vpd_end = random.pick(&[0x00, 0xFF]);
+    image
+}

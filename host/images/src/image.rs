@@ -131,36 +131,49 @@ impl Image {
     /// The image's bytes, with right checks and, where its bytes can hold it, the right length in the
     /// header.
     pub fn bytes(&self) -> Vec<u8> {
-        let mut bytes = match self.format {
-            Format::Fboss => FBOSS_HEADER.to_vec(),
-            Format::Vpd => Vec::new(),
-            Format::Tiny => vec![0x56, 0x02, 0x00],
-            Format::Onie => [&ONIE_START[..], &[0x00, 0x00]].concat(),
-        };
-        for entry in &self.entries {
-            bytes.extend(entry.bytes(self.format));
-        }
-        match self.format {
-            Format::Fboss => {
-                let check = check16(&bytes);
-                bytes.extend([FBOSS_END, 2]);
-                bytes.extend(check.to_be_bytes());
-            }
-            Format::Vpd => bytes.push(self.vpd_end),
-            Format::Tiny => {
-                bytes[2] = (bytes.len() + 1) as u8;
-                bytes.push(check8(&bytes));
-            }
-            Format::Onie => {
-                bytes.extend([ONIE_END, 4]);
-                bytes.extend([0; 4]);
-                declare(&mut bytes);
-                seal(Format::Onie, &mut bytes);
-            }
+        let entries: Vec<u8> = self
+            .entries
+            .iter()
+            .flat_map(|entry| entry.bytes(self.format))
+            .collect();
+        let mut bytes = around(self.format, &entries);
+        if let (Format::Vpd, Some(end)) = (self.format, bytes.last_mut()) {
+            *end = self.vpd_end;
         }
         bytes.extend(&self.after);
         bytes
     }
+}
+
+/// The bytes of entries with header and end around them. Its checks are right and, where its bytes can hold
+/// it, the length in the header, and a VPD image ends with 00h.
+pub fn around(format: Format, entries: &[u8]) -> Vec<u8> {
+    let header: &[u8] = match format {
+        Format::Fboss => &FBOSS_HEADER,
+        Format::Vpd => &[],
+        Format::Tiny => &[0x56, 0x02, 0x00],
+        Format::Onie => &[&ONIE_START[..], &[0x00, 0x00]].concat(),
+    };
+    let mut bytes = [header, entries].concat();
+    match format {
+        Format::Fboss => {
+            let check = check16(&bytes);
+            bytes.extend([FBOSS_END, 2]);
+            bytes.extend(check.to_be_bytes());
+        }
+        Format::Vpd => bytes.push(0x00),
+        Format::Tiny => {
+            bytes[2] = (bytes.len() + 1) as u8;
+            bytes.push(check8(&bytes));
+        }
+        Format::Onie => {
+            bytes.extend([ONIE_END, 4]);
+            bytes.extend([0; 4]);
+            declare(&mut bytes);
+            seal(Format::Onie, &mut bytes);
+        }
+    }
+    bytes
 }
 
 /// The place of an entry, walking over codes and lengths from the first entry on.

@@ -135,3 +135,35 @@ pub fn shortest(random: &mut Random) -> Vec<Entry> {
     }
     entries
 }
+
+/// Entries with which L is so many less than 255: a few named ones, one that fills, and a pool in half.
+pub fn filling(random: &mut Random, less: usize) -> Vec<Entry> {
+    let often = random.between(1, 6);
+    let mut entries = Vec::new();
+    for code in NAMED.concat() {
+        if code != POOL && random.once_in(often) {
+            entries.push(Entry::new(code, kept(random, code)));
+        }
+    }
+    let size: usize = entries
+        .iter()
+        .map(|entry| entry.bytes(Format::Tiny).len())
+        .sum();
+    // Tags of id 0 have a length byte, and so does the pool.
+    let mut left = MOST - less - size - 2;
+    if random.once_in(2) {
+        let pool = random.below(left.saturating_sub(2) + 1);
+        entries.push(Entry::new(POOL, random.bytes(pool)));
+        left = left.saturating_sub(2 + pool);
+    }
+    let place = random.below(entries.len() + 1);
+    let place = place.min(
+        entries
+            .iter()
+            .take_while(|entry| entry.code != POOL)
+            .count(),
+    );
+    let code = random.pick(&[0x02, 0x0F]);
+    entries.insert(place, Entry::new(code, random.bytes(left)));
+    entries
+}

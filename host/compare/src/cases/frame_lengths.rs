@@ -2,7 +2,7 @@
 
 use images::fields::List;
 use images::generate::{large, valid};
-use images::image::{seal, Entry, Format, Image, FORMATS, LONGEST};
+use images::image::{around as image, Entry, Format, Image, FORMATS, LONGEST};
 use images::random::Random;
 
 use super::onie::SWITCH;
@@ -25,24 +25,6 @@ const EVERY_TAG: [usize; 8] = [2, 2, 7, 7, 7, 9, 9, 11];
 
 /// The switch: code, length byte and value.
 const SWITCH_FRAMES: [usize; 13] = [27, 25, 12, 8, 21, 3, 17, 9, 4, 14, 4, 8, 31];
-
-/// An image with these bytes as entries. Its lengths and checks are right.
-fn image(format: Format, entries: &[u8]) -> Vec<u8> {
-    let length = entries.len();
-    let declared = ((length + 6) as u16).to_be_bytes();
-    let (header, end): (Vec<u8>, &[u8]) = match format {
-        Format::Fboss => (vec![0xFB, 0xFB, 0x05, 0xFF], &[0xFA, 0x02, 0, 0]),
-        Format::Vpd => (Vec::new(), &[0x00]),
-        Format::Tiny => (vec![0x56, 0x02, length as u8 + 4], &[0]),
-        Format::Onie => (
-            [&b"TlvInfo\x00\x01"[..], &declared].concat(),
-            &[0xFE, 0x04, 0, 0, 0, 0],
-        ),
-    };
-    let mut image = [&header, entries, end].concat();
-    seal(format, &mut image);
-    image
-}
 
 /// The frames of an image in all editions that have its format and accept it, alone and with bytes after
 /// the end. The first edition of the format does.
