@@ -3,6 +3,7 @@
 //! A case that a document gives is held to the document's answer, and library and second reader to
 //! each other. In a sweep the two are held to each other.
 
+mod add_remove;
 mod dates;
 mod decisions;
 mod frame_lengths;
@@ -20,7 +21,7 @@ use crate::frames;
 pub type Group = fn(&mut Comparison);
 
 /// All fixed cases, in groups that can be compared side by side.
-pub const GROUPS: [(&str, Group); 54] = [
+pub const GROUPS: [(&str, Group); 67] = [
     (
         "01, Both sides of each line",
         scope::both_sides_of_each_line,
@@ -77,6 +78,31 @@ pub const GROUPS: [(&str, Group); 54] = [
     ),
     ("every length of a value", frame_lengths::value_lengths),
     ("frames of generated images", frame_lengths::generated),
+    ("02, add and remove: known", add_remove::known),
+    ("02, add and remove: examples", add_remove::examples),
+    (
+        "02, add and remove: order of adds",
+        add_remove::order_of_adds,
+    ),
+    (
+        "02, add and remove: order of removals",
+        add_remove::order_of_removals,
+    ),
+    ("02, add and remove: lengths", add_remove::lengths),
+    (
+        "02, add and remove: older editions",
+        add_remove::older_editions,
+    ),
+    ("every byte of an added key", add_remove::every_key_byte),
+    ("every code added", add_remove::every_code),
+    ("every entry removed", add_remove::every_entry),
+    (
+        "every form of VPD lengths, added to and removed from",
+        add_remove::vpd_forms,
+    ),
+    ("every length of a field", add_remove::field_lengths),
+    ("parts of a field", add_remove::field_parts),
+    ("built up and taken down", add_remove::built_up),
     ("editions alike", sweeps::editions_alike),
     ("every format and edition", sweeps::every_format_and_edition),
     ("every length", sweeps::every_length),
@@ -153,6 +179,8 @@ fn checked_in(compare: &mut Comparison, format: u32, edition: u32, image: &str, 
         compare.case(image, &check.value(0), answer, None);
         compare.case(image, &check.step(&walk, RECORD), answer, None);
         compare.case(image, &check.edit(0, b"", 100), answer, None);
+        compare.case(image, &check.add(&[0; 20], b"", 100), answer, None);
+        compare.case(image, &check.remove(0, 100), answer, None);
         if format == TINY {
             compare.case(image, &check.string(0), answer, None);
         }

@@ -83,6 +83,8 @@ pub fn known(compare: &mut Comparison) {
                     let write = Call::write(number, edition, &field_bytes, values, room);
                     compare.case(what, &write, refusal, None);
                     compare.case(what, &check.edit(0, b"A7", room), refusal, None);
+                    compare.case(what, &check.add(&field_bytes, values, room), refusal, None);
+                    compare.case(what, &check.remove(0, room), refusal, None);
                     let of_vendor = refused_unless(format == Format::Onie);
                     let read = check.vendor_read(room, BLOCK);
                     compare.vendor_case(what, &read, of_vendor, [&[], &[]]);

@@ -28,7 +28,7 @@ fn small_images() -> [(Format, Vec<u8>); 4] {
     ]
 }
 
-/// All ten calls with every format and edition, known or not, on images of every format.
+/// All twelve calls with every format and edition, known or not, on images of every format.
 pub fn every_format_and_edition(compare: &mut Comparison) {
     let mut fields = List::default();
     fields.add(1, b"SKU", b"A7");
@@ -82,6 +82,8 @@ pub fn every_format_and_edition(compare: &mut Comparison) {
                     let values = &fields.values;
                     compare.call(&Call::write(format, edition, &field_bytes, values, room));
                     compare.call(&check.edit(1, b"A7", room));
+                    compare.call(&check.add(&field_bytes, values, room));
+                    compare.call(&check.remove(1, room));
                     compare.call(&check.vendor_read(room, BLOCK));
                     compare.call(&Call::vendor_write(
                         format, edition, b"S", 0x80, &pieces, room,
@@ -339,7 +341,13 @@ pub fn editions_alike(compare: &mut Comparison) {
                     check.string(n),
                     Call { n, ..step },
                     check.edit(n, value, image.len() + 600),
+                    check.remove(n, image.len()),
                 ]);
+            }
+            let new = fields::to_add(&mut random, format, 3, &[]);
+            let (field, added) = (new.bytes(), &new.values);
+            for room in [image.len() + 600, image.len()] {
+                calls.push(check.add(&field, added, room));
             }
             let list = fields::list(&mut random, format, 3);
             let (bytes, values) = (list.bytes(), &list.values);

@@ -13,7 +13,7 @@ use crate::comparison::hex;
 const LAB: &[u8] = b"\x01\x08lab.rack\x02A7\x00";
 
 /// The writer's alphabet (01, VPD 2.0).
-const ALPHABET: &[u8] = b"abcdefghijklmnopqrstuvwxyzABCDEFGHIJKLMNOPQRSTUVWXYZ0123456789_";
+pub const ALPHABET: &[u8] = b"abcdefghijklmnopqrstuvwxyzABCDEFGHIJKLMNOPQRSTUVWXYZ0123456789_";
 
 /// Keys that no writer takes. A comparison as text, up to a zero byte, without case or without marks
 /// could confuse some, and some have the bytes of an end or of a whole entry.
