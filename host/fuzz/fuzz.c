@@ -1,24 +1,26 @@
 /*
- * A fuzz harness over the ten calls of libboardid.a, for libFuzzer.
+ * A fuzz harness over the twelve calls of libboardid.a, for libFuzzer.
  *
  * It needs no second implementation: it holds the calls to what document 01 says of all of them,
  * and to each other. A call that is refused leaves lent memory as it was, an accepted write or edit
- * is read back, a list is what its entries say one by one, each frame ends where the next entry or
+ * is read back, an add or a removal leaves every other entry byte for byte, a list is what its entries say one by one, each frame ends where the next entry or
  * the end begins, a date is a day, a payload is what the vendor extensions of a list hold, and so on. Where something does not hold the program stops.
  *
  * An input is seven bytes, then the second part, then the first part:
  *
- *   0     the call: check, list, entry, value, string, step, write, edit, vendor read, vendor write
+ *   0     the call: check, list, entry, value, string, step, write, edit, vendor read, vendor write,
+ *         add, remove
  *   1     the format, by number in FORMATS
  *   2     the edition, by number in EDITIONS
  *   3     n, or by number in NUMBERS from F0h on; the offsets of a vendor write are a multiple of it
  *   4     bits 0 to 2: how much memory is lent, by number in `room_of`; bit 3: the image is given
  *         right checks first, and of ONIE the right length; bits 4 to 7: how many bytes of a walk
- *         are cut off, or how long a block is, by number in BLOCKS
+ *         are cut off, or how long a block is, by number in BLOCKS, or a field, in FIELDS
  *   5, 6  the length of the second part, low byte first
  *
  * The first part is the image, the fields of a write, or the pieces of a vendor write. The second
- * part is the new value of an edit, the values of a write, or the serial of a vendor write.
+ * part is the new value of an edit, the values of a write, the serial of a vendor write, or the field
+ * of an add with the values after it.
  */
 
 #define _DEFAULT_SOURCE /* MAP_ANONYMOUS */
@@ -52,8 +54,27 @@ uint64_t boardid_vendor_read(uint32_t format, uint32_t edition, const uint8_t *i
 uint64_t boardid_vendor_write(uint32_t format, uint32_t edition, const uint8_t *serial,
                               size_t serial_len, uint64_t offsets, const uint8_t *pieces,
                               size_t pieces_len, uint8_t *out, size_t out_len);
+uint64_t boardid_add(uint32_t format, uint32_t edition, const uint8_t *image, size_t image_len,
+                     const uint8_t *field, size_t field_len, const uint8_t *values,
+                     size_t values_len, uint8_t *out, size_t out_len);
+uint64_t boardid_remove(uint32_t format, uint32_t edition, const uint8_t *image, size_t image_len,
+                        uint64_t n, uint8_t *out, size_t out_len);
 
-enum { CHECK, LIST, ENTRY, VALUE, STRING, STEP, WRITE, EDIT, VENDOR_READ, VENDOR_WRITE, CALLS };
+enum {
+    CHECK,
+    LIST,
+    ENTRY,
+    VALUE,
+    STRING,
+    STEP,
+    WRITE,
+    EDIT,
+    VENDOR_READ,
+    VENDOR_WRITE,
+    ADD,
+    REMOVE,
+    CALLS
+};
 
 #define LONGEST 65536u
 #define RECORD 64u
@@ -67,6 +88,7 @@ static const uint32_t EDITIONS[8] = {1, 2, 0, 3, 4, 5, 260, UINT32_MAX};
 #define NEWEST 4u
 static const uint8_t BLOCKS[16] = {48, 48, 48, 47, 0, 49, 60, 96, 1, 4, 16, 32, 44, 46, 64, 95};
 #define LONGEST_BLOCK 96u
+static const uint8_t FIELDS[16] = {20, 20, 20, 20, 20, 20, 20, 20, 19, 0, 21, 40, 1, 16, 39, 60};
 static const uint64_t NUMBERS[16] = {
     0xF0, 0xFF, 0x100, 0x101, 0x7FFF, 0xFFFF, 0x10000, 0x7FFFFFFF,
     0x80000000, 0xFFFFFFFF, 0x100000000, 0x100000001, 1ull << 58, 1ull << 63, UINT64_MAX - 1,
@@ -116,7 +138,7 @@ struct lent {
 
 /* Room for the longest part of each kind, between two guard pages. */
 #define ROOM (8u << 20)
-enum { FIRST, OTHER, OUT, BESIDE, PARTS };
+enum { FIRST, OTHER, THIRD, OUT, BESIDE, PARTS };
 static uint8_t *arenas[PARTS];
 static size_t page;
 
@@ -156,8 +178,8 @@ struct request {
     uint32_t format, edition;
     uint64_t n;
     unsigned room_mode, cut;
-    const uint8_t *first, *other;
-    size_t first_len, other_len;
+    const uint8_t *first, *other, *third;
+    size_t first_len, other_len, third_len;
 };
 
 /* The content of written memory before a call. */
@@ -196,6 +218,7 @@ static uint64_t make(const struct request *r, uint8_t *out, size_t out_len, uint
     for (int way = 0; way < WAYS; way++) {
         struct lent a = lend(way, FIRST, r->first, r->first_len);
         struct lent b = lend(way, OTHER, r->other, r->other_len);
+        struct lent c = lend(way, THIRD, r->third, r->third_len);
         struct lent o = lend(way, OUT, before, out_len);
         struct lent w = lend(way, BESIDE, beside, beside_len);
         uint32_t f = r->format, e = r->edition;
@@ -216,13 +239,19 @@ static uint64_t make(const struct request *r, uint8_t *out, size_t out_len, uint
         case VENDOR_READ:
             given = boardid_vendor_read(f, e, a.bytes, a.len, o.bytes, o.len, w.bytes, w.len);
             break;
-        default:
+        case VENDOR_WRITE:
             given = boardid_vendor_write(f, e, b.bytes, b.len, r->n, a.bytes, a.len, o.bytes,
                                          o.len);
             break;
+        case ADD:
+            given = boardid_add(f, e, a.bytes, a.len, b.bytes, b.len, c.bytes, c.len, o.bytes,
+                                o.len);
+            break;
+        default: given = boardid_remove(f, e, a.bytes, a.len, r->n, o.bytes, o.len); break;
         }
         HOLDS(same(a.bytes, r->first, a.len));
         HOLDS(same(b.bytes, r->other, b.len));
+        HOLDS(same(c.bytes, r->third, c.len));
         if (refusal(given) != 0) {
             HOLDS(same(o.bytes, before, o.len));
             HOLDS(same(w.bytes, beside, w.len));
@@ -250,6 +279,7 @@ static uint64_t make(const struct request *r, uint8_t *out, size_t out_len, uint
         if (r->call == VENDOR_READ && w.len >= BLOCK) HOLDS(same(w.bytes, block, BLOCK));
         take_back(way, a);
         take_back(way, b);
+        take_back(way, c);
         take_back(way, o);
         take_back(way, w);
     }
@@ -478,6 +508,169 @@ static void hold_edit(const struct request *r, const uint8_t *out, size_t out_le
     free(old);
 }
 
+/* How many bytes the end of a format has, and how many an image of it at most. */
+static uint64_t end_of(uint32_t format) { return format == 1 ? 4 : format == 4 ? 6 : 1; }
+static uint64_t longest(uint32_t format) {
+    return format == 3 ? 255 : format == 4 ? 2059 : LONGEST;
+}
+
+/* Where an entry of a list begins, and how many bytes its frame has. */
+static uint64_t at_of(const uint8_t *record) { return word(record, 2); }
+static uint64_t frame_of(const uint8_t *record) {
+    return (uint64_t)word(record, 5) + word(record, 6) - word(record, 2);
+}
+
+/* How many bytes a VPD length has in its shortest form. */
+static uint64_t shortest(uint64_t length) {
+    return length < 1u << 7 ? 1 : length < 1u << 14 ? 2 : length < 1u << 21 ? 3 : 4;
+}
+
+/* The length of the frame of a new entry. */
+static uint64_t frame_of_field(const struct request *r) {
+    uint64_t key = word(r->other, 2), value = word(r->other, 4);
+    if (r->format == 2) return 1 + shortest(key) + key + shortest(value) + value;
+    return (r->format == 3 && word(r->other, 0) >> 4 != 0 ? 1 : 2) + value;
+}
+
+/* Whether a part of a field lies inside the values. */
+static int inside(const struct request *r, unsigned number) {
+    return (uint64_t)word(r->other, number) + word(r->other, number + 1) <= r->third_len;
+}
+
+/* Whether an entry stands in the way of a field: one of its code, of VPD type 01h one of its key too. */
+static int is_there(const struct request *r, const uint8_t *records, uint64_t entries) {
+    uint32_t code = word(r->other, 0), key_len = word(r->other, 2);
+    if (r->format == 4 && code == 0xFD) return 0;
+    for (uint64_t i = 0; i < entries; i++) {
+        const uint8_t *record = records + i * RECORD;
+        if (word(record, 0) != code) continue;
+        if (r->format != 2 || code != 1) return 1;
+        if (word(record, 4) == key_len &&
+            same(r->first + word(record, 3), r->third + word(r->other, 1), key_len)) {
+            return 1;
+        }
+    }
+    return 0;
+}
+
+/* What an add is refused for but for its length, 0 where for nothing: parts outside the values, then what
+   a write of the field alone says of its code and its rule, then an entry in its way. */
+static unsigned field_refusal(const struct request *r, const uint8_t *records, uint64_t entries) {
+    if (r->other_len < FIELD || !inside(r, 3) || (r->format == 2 && !inside(r, 1))) return 13;
+    uint8_t *out = malloc(LONGEST);
+    uint64_t alone = boardid_write(r->format, r->edition, r->other, FIELD, r->third, r->third_len,
+                                   out, LONGEST);
+    free(out);
+    if (refusal(alone) == 14 || refusal(alone) == 7) return refusal(alone);
+    return is_there(r, records, entries) ? 8 : 0;
+}
+
+/* A list that is another with one entry more, at a number. */
+static void hold_one_more(const uint8_t *image, const uint8_t *records, const uint8_t *more_image,
+                          const uint8_t *more_records, uint64_t entries, uint64_t number) {
+    hold_alike(image, records, more_image, more_records, number, UINT64_MAX);
+    hold_alike(image, records + number * RECORD, more_image, more_records + (number + 1) * RECORD,
+               entries - number, UINT64_MAX);
+}
+
+/* An add or a removal that is not refused, of an entry of this number: every other entry stays byte for
+   byte, and what editions accepted of the image, they read on with that entry added or gone. */
+static void hold_changed(const struct request *r, const uint8_t *out, size_t out_len, uint64_t len,
+                         const uint8_t *old, uint64_t before, uint64_t number) {
+    uint64_t entries, others, adding = r->call == ADD;
+    uint8_t *records = hold_output(r, out, out_len, len, &entries);
+    HOLDS(adding ? entries == before + 1 : entries + 1 == before);
+    const uint8_t *record = (adding ? records : old) + number * RECORD;
+    uint64_t at = at_of(record), frame = frame_of(record), header = header_of(r->format);
+    uint64_t end = header;
+    for (uint64_t i = 0; i < before; i++) end += frame_of(old + i * RECORD);
+    uint64_t more = adding ? frame : 0, less = adding ? 0 : frame;
+    HOLDS(same(out + header, r->first + header, at - header));
+    HOLDS(same(out + at + more, r->first + at + less, end - at - less));
+    HOLDS(len == end + more - less + end_of(r->format));
+    if (r->format == 2) HOLDS(out[len - 1] == 0x00);
+    if (adding) {
+        uint32_t key_len = r->format == 2 ? word(r->other, 2) : 0;
+        HOLDS(frame == frame_of_field(r));
+        HOLDS(word(record, 0) == word(r->other, 0));
+        HOLDS(word(record, 1) == r->format * 256 + word(r->other, 0));
+        HOLDS(word(record, 4) == key_len && word(record, 6) == word(r->other, 4));
+        if (key_len > 0) HOLDS(same(out + word(record, 3), r->third + word(r->other, 1), key_len));
+        HOLDS(same(out + word(record, 5), r->third + word(r->other, 3), word(record, 6)));
+    }
+    for (uint32_t e = r->edition; e <= NEWEST; e++) {
+        uint8_t *former = listed(r->format, e, r->first, r->first_len, &others);
+        if (former == NULL) continue;
+        uint8_t *later = listed(r->format, e, out, e % 2 ? len : out_len, &others);
+        HOLDS(later != NULL && others == entries);
+        if (adding) {
+            hold_one_more(r->first, former, out, later, before, number);
+        } else {
+            hold_one_more(out, later, r->first, former, entries, number);
+        }
+        free(former);
+        free(later);
+    }
+    /* What was added, removed: the entries that there were. */
+    if (adding) {
+        uint8_t *back = malloc(len);
+        uint64_t left = boardid_remove(r->format, r->edition, out, out_len, number, back, len);
+        HOLDS(left == (end + end_of(r->format)) << 32);
+        HOLDS(same(back + header, r->first + header, end - header));
+        HOLDS(r->format == 2 || same(back, r->first, count(left)));
+        free(back);
+    }
+    free(records);
+}
+
+/* An add or a removal: after what check refuses, it is about the list, the field or the number, and the
+   room alone. */
+static void hold_change(const struct request *r, uint64_t answer, const uint8_t *out,
+                        size_t out_len) {
+    uint64_t entries, checked = boardid_check(r->format, r->edition, r->first, r->first_len);
+    unsigned known = refusal(checked);
+    if (known == 16 || known == 1) {
+        HOLDS(answer == checked);
+        return;
+    }
+    if (out_len > LONGEST || r->first_len > LONGEST) {
+        HOLDS(answer == 2ull << 59);
+        return;
+    }
+    uint8_t *records = listed(r->format, r->edition, r->first, r->first_len, &entries);
+    if (records == NULL) {
+        HOLDS(answer == checked);
+        return;
+    }
+    uint64_t number = r->n, place_given = 0, len = header_of(r->format) + end_of(r->format);
+    for (uint64_t i = 0; i < entries; i++) len += frame_of(records + i * RECORD);
+    unsigned expected;
+    if (r->call == ADD) {
+        expected = field_refusal(r, records, entries);
+        /* In Tiny the pool stays the last. */
+        int pool = r->format == 3 && entries > 0 && word(records + (entries - 1) * RECORD, 0) == 1;
+        number = entries - (uint64_t)pool;
+        if (expected == 0) len += frame_of_field(r);
+    } else if (number >= entries) {
+        expected = 13;
+    } else {
+        const uint8_t *record = records + number * RECORD;
+        uint32_t code = word(record, 0);
+        int required = r->format == 1 && (code == 1 || (code >= 8 && code <= 11));
+        expected = word(record, 1) == 0 ? 14 : required ? 11 : 0;
+        if (expected == 14) place_given = at_of(record);
+        len -= frame_of(record);
+    }
+    if (expected == 0 && (len > out_len || len > longest(r->format))) expected = 12;
+    if (expected != 0) {
+        HOLDS(answer == ((uint64_t)expected << 59 | place_given));
+    } else {
+        HOLDS(answer == len << 32);
+        hold_changed(r, out, out_len, len, records, entries, number);
+    }
+    free(records);
+}
+
 /* What a vendor extension begins with where a piece of a payload follows. */
 static const uint8_t prefix[PREFIX] = {0x00, 0x00, 0x1F, 0x79, 0x00};
 
@@ -703,6 +896,13 @@ int LLVMFuzzerTestOneInput(const uint8_t *data, size_t size) {
         seal(r.format, first, r.first_len);
     }
     r.first = first;
+    r.third = r.other + r.other_len;
+    if (r.call == ADD) {
+        size_t field = FIELDS[r.cut] < r.other_len ? FIELDS[r.cut] : r.other_len;
+        r.third = r.other + field;
+        r.third_len = r.other_len - field;
+        r.other_len = field;
+    }
     /* Offsets that differ in every byte. */
     if (r.call == VENDOR_WRITE) r.n *= 0x9E3779B97F4A7C15u;
 
@@ -723,6 +923,7 @@ int LLVMFuzzerTestOneInput(const uint8_t *data, size_t size) {
         if (refusal(answer) == 0 && r.call == EDIT) hold_edit(&r, out, roomy, enough);
         if (r.call == VENDOR_READ) hold_vendor_read(&r, answer, out, roomy, block);
         if (r.call == VENDOR_WRITE) hold_vendor_write(&r, answer, out, roomy);
+        if (r.call == ADD || r.call == REMOVE) hold_change(&r, answer, out, roomy);
     }
     size_t room = room_of(r.room_mode, enough);
     free(out);
@@ -743,6 +944,8 @@ int LLVMFuzzerTestOneInput(const uint8_t *data, size_t size) {
         break;
     case VENDOR_READ: hold_vendor_read(&r, answer, out, room, block); break;
     case VENDOR_WRITE: hold_vendor_write(&r, answer, out, room); break;
+    case ADD:
+    case REMOVE: hold_change(&r, answer, out, room); break;
     default: break;
     }
     if (on_image) hold_image(&r);
