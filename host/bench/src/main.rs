@@ -35,7 +35,7 @@ struct Timed {
 }
 
 // The pointers and lengths of the library's calls come from slices, and `out` overlaps none of them.
-const CALLS: [Timed; 7] = [
+const CALLS: [Timed; 9] = [
     Timed {
         name: "check",
         room: |_| 0,
@@ -120,6 +120,47 @@ const CALLS: [Timed; 7] = [
         },
         second: |format, edition, board, out| {
             second::bytes::write(format, edition, &board.fields, &board.values, out)
+        },
+    },
+    Timed {
+        name: "add",
+        room: |board| board.length,
+        library: |format, edition, board, out| {
+            let (image, length) = (board.without.as_ptr(), board.without.len());
+            let (field, field_length) = (board.field.as_ptr(), board.field.len());
+            let (values, values_length) = (board.field_values.as_ptr(), board.field_values.len());
+            let (out, room) = (out.as_mut_ptr(), out.len());
+            unsafe {
+                exports::boardid_add(
+                    format,
+                    edition,
+                    image,
+                    length,
+                    field,
+                    field_length,
+                    values,
+                    values_length,
+                    out,
+                    room,
+                )
+            }
+        },
+        second: |format, edition, board, out| {
+            let (image, field, values) = (&board.without, &board.field, &board.field_values);
+            second::bytes::add(format, edition, image, field, values, out)
+        },
+    },
+    Timed {
+        name: "remove",
+        room: |board| board.without_length,
+        library: |format, edition, board, out| {
+            let (image, length) = (board.image.as_ptr(), board.image.len());
+            let (out, room) = (out.as_mut_ptr(), out.len());
+            let n = board.removed;
+            unsafe { exports::boardid_remove(format, edition, image, length, n, out, room) }
+        },
+        second: |format, edition, board, out| {
+            second::bytes::remove(format, edition, &board.image, board.removed, out)
         },
     },
     Timed {

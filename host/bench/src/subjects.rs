@@ -19,6 +19,16 @@ pub struct Board {
     /// The fields of a write and their values. There are none where the image can't be written.
     pub fields: Vec<u8>,
     pub values: Vec<u8>,
+    /// The image's length, its end included and no more.
+    pub length: usize,
+    /// The entry that a removal takes out: the first from the middle one on that can be added again.
+    pub removed: u64,
+    /// The image without it, and its length, its end included and no more.
+    pub without: Vec<u8>,
+    pub without_length: usize,
+    /// The entry as a field to be added, and its values.
+    pub field: Vec<u8>,
+    pub field_values: Vec<u8>,
     /// The length of an amplifier's payload. It is 0 where the image is no amplifier's.
     pub payload: usize,
     /// What a vendor write is given. There are no pieces where none is timed.
@@ -120,22 +130,46 @@ fn board(format: Format, entries: Vec<Entry>, length: usize, value: Vec<u8>) -> 
         list.add(entry.code.into(), &entry.key, &entry.value);
     }
     let count = entries.len();
-    let mut image = Image::new(format, entries).bytes();
-    if image.len() < length {
-        image.resize(length, 0xFF);
-    }
+    let middle = count / 2;
+    let removed = (middle..count)
+        .chain(0..middle)
+        .find(|&n| can_be_added(format, &entries[n]))
+        .expect("every image has an entry that can be removed and added");
+    let mut left = entries.clone();
+    let gone = left.remove(removed);
+    let mut new = List::default();
+    new.add(gone.code.into(), &gone.key, &gone.value);
+    let [(image, own_length), (without, without_length)] = [entries, left].map(|entries| {
+        let mut image = Image::new(format, entries).bytes();
+        let own_length = image.len();
+        image.resize(own_length.max(length), 0xFF);
+        (image, own_length)
+    });
     Board {
         image,
         entries: count,
-        middle: count as u64 / 2,
+        middle: middle as u64,
         value,
         fields: list.bytes(),
         values: list.values,
+        length: own_length,
+        removed: removed as u64,
+        without,
+        without_length,
+        field: new.bytes(),
+        field_values: new.values,
         payload: 0,
         serial: Vec::new(),
         offsets: 0,
         pieces: Vec::new(),
     }
+}
+
+/// Whether an entry can be removed and added again: it is named and not required, and a writer takes its key.
+fn can_be_added(format: Format, entry: &Entry) -> bool {
+    let in_alphabet = |byte: &u8| byte.is_ascii_alphanumeric() || *byte == b'_';
+    let required = format == Format::Fboss && fboss::REQUIRED.contains(&entry.code);
+    named(format, 3).contains(&entry.code) && !required && entry.key.iter().all(in_alphabet)
 }
 
 /// 000, Example.
@@ -205,8 +239,8 @@ fn full_tiny() -> Board {
     }
 }
 
-/// An FBOSS image of the longest size with values of about one length and the serial number in the
-/// middle. Its unnamed entries can't be written, so the write is of the twenty named fields, with
+/// An FBOSS image of the longest size with values of about one length, the serial number in the middle and a
+/// name after it, which can be removed. Its unnamed entries can't be written, so the write is of the twenty named fields, with
 /// text of about that length.
 fn full_fboss(random: &mut Random, value_length: usize) -> Board {
     // The serial number gets a byte, for which an entry of the longest size would have no room.
@@ -216,6 +250,9 @@ fn full_fboss(random: &mut Random, value_length: usize) -> Board {
     serial.value = b"S".to_vec();
     let middle = entries.len().div_ceil(2);
     entries.insert(middle, serial);
+    let at = (middle + 1..).find(|&n| !fboss::REQUIRED.contains(&entries[n].code));
+    let name = &mut entries[at.expect("most entries are unnamed")];
+    *name = Entry::new(12, vec![b'x'; name.value.len()]);
     let mut board = board(Format::Fboss, entries, LONGEST, b"T".to_vec());
 
     let mut list = List::default();
