@@ -21,7 +21,7 @@ use crate::frames;
 pub type Group = fn(&mut Comparison);
 
 /// All fixed cases, in groups that can be compared side by side.
-pub const GROUPS: [(&str, Group); 67] = [
+pub const GROUPS: [(&str, Group); 68] = [
     (
         "01, Both sides of each line",
         scope::both_sides_of_each_line,
@@ -94,6 +94,7 @@ pub const GROUPS: [(&str, Group); 67] = [
         add_remove::older_editions,
     ),
     ("every byte of an added key", add_remove::every_key_byte),
+    ("numbers of keys, added to", add_remove::numbers_of_keys),
     ("every code added", add_remove::every_code),
     ("every entry removed", add_remove::every_entry),
     (

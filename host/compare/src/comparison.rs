@@ -245,10 +245,14 @@ impl Comparison {
         let answer = call.on_second(&mut room, &mut beside);
 
         let layout = self.layout;
-        let mut lend = |bytes: &[u8]| Lent::copy_of(bytes, layout, self.salt());
-        let read = call.read.map(&mut lend);
-        let mut lent_room = lend(&before);
-        let mut lent_beside = lend(&before_beside);
+        let mut lend = |bytes: &[u8], name: Option<&str>| match name {
+            Some(_) => Lent::copy_of(bytes, layout, self.salt()),
+            None => Lent::none(),
+        };
+        let names = call.read_names();
+        let read = [0, 1, 2].map(|part| lend(call.read[part], names.get(part).copied()));
+        let mut lent_room = lend(&before, call.room_name());
+        let mut lent_beside = lend(&before_beside, call.beside_name());
         let from_library = call.on_library(&read, &mut lent_room, &mut lent_beside);
 
         let mut wrong = Vec::new();
@@ -281,6 +285,10 @@ impl Comparison {
             &beside,
         );
 
+        let unchanged = lent_room.bytes() == before && lent_beside.bytes() == before_beside;
+        if refusal(from_library) != 0 && !unchanged {
+            wrong.push("a refused call changed what it was lent".to_string());
+        }
         let by_bytes = wrong_frames(call, from_library, lent_room.bytes())
             .or_else(|| changes::wrong(call, from_library, lent_room.bytes()));
         if let Some(what) = by_bytes {

@@ -49,6 +49,16 @@ impl Lent {
         }
     }
 
+    /// A part that the call does not take.
+    pub fn none() -> Lent {
+        Lent {
+            block: Vec::new(),
+            guard: 0,
+            salt: 0,
+            null: true,
+        }
+    }
+
     pub fn len(&self) -> usize {
         self.block.len() - 2 * self.guard
     }

@@ -233,17 +233,17 @@ fn perform(options: &Options, task: usize, what: Task) -> Outcome {
     }
 }
 
-/// Whether every image of a format is a small one.
-fn has_small_images(format: Format) -> bool {
-    matches!(format, Format::Tiny | Format::Onie)
-}
-
 /// Draws one input of a format and makes the calls on it.
 fn generated(compare: &mut Comparison, random: &mut Random, format: Format) {
     // Of ONIE there are vendor blocks besides.
     let kinds = match format {
         Format::Onie => 1_300,
         _ => 1_000,
+    };
+    // A full image of 65,536 bytes takes long.
+    let full_once_in = match format {
+        Format::Fboss | Format::Vpd => 15,
+        Format::Tiny | Format::Onie => 1,
     };
     match random.below(kinds) {
         0 | 1 => {
@@ -262,8 +262,7 @@ fn generated(compare: &mut Comparison, random: &mut Random, format: Format) {
             let image = damage::noise(random, format);
             plan::on_image(compare, random, format, &image);
         }
-        // Large ones take long.
-        30..=59 if random.once_in(if has_small_images(format) { 1 } else { 30 }) => {
+        30..=44 if random.once_in(full_once_in) => {
             let image = generate::nearly_full(random, format).bytes();
             plan::on_image(compare, random, format, &image);
         }

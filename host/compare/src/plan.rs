@@ -94,7 +94,7 @@ fn on_accepted(
     let n = number(random, entries);
     compare.call(&check.edit(n, b"1", check.read[0].len() + 1));
     adds(compare, random, former, check);
-    let removed = match random.below(10) {
+    let removed = match random.below(20) {
         0 => entries,
         _ => 1,
     };
@@ -314,14 +314,11 @@ fn reads_on(
         // As a whole output has it.
         image.resize(LONGEST.min(made.len() + random.below(30)), 0xFF);
     }
-    let newer = former.lists.iter();
-    let mut newer: Vec<_> = newer
-        .filter(|(edition, _)| *edition >= call.edition)
-        .collect();
-    if former.is_large() {
-        // One of them.
-        random.shuffle(&mut newer);
-        newer.truncate(1);
+    let mut newer: Vec<_> = former.lists.iter().collect();
+    newer.retain(|(edition, _)| *edition >= call.edition);
+    if !random.once_in(4) || former.is_large() {
+        // One of them is enough.
+        newer = vec![random.pick(&newer)];
     }
     for (edition, list) in newer {
         let mut triples = former.triples(list);

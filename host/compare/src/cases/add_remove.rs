@@ -5,6 +5,7 @@ use images::generate::{kept, named};
 use images::image::{around, Entry, Format, Image, FORMATS, LONGEST};
 use images::onie::EXTENSION;
 use images::random::Random;
+use images::vpd::{self, Rule};
 
 use super::onie::SWITCH;
 use super::scope::{every_tag_image, SKU};
@@ -788,6 +789,28 @@ pub fn every_key_byte(compare: &mut Comparison) {
         b"lab rack",
     ] {
         add_refused(compare, Format::Vpd, &EDITIONS, image, (1, key, b"v"), 7);
+    }
+}
+
+/// Added to images of few keys and of hundreds: the key of any entry is there already, and one that differs in
+/// case or by a byte is not.
+pub fn numbers_of_keys(compare: &mut Comparison) {
+    for count in [1, 2, 8, 130, 514, 3_000] {
+        let entries = vpd::distinct(Rule::Writer, count);
+        let image = Image::new(Format::Vpd, entries.clone()).bytes();
+        for entry in entries.iter().step_by(1 + count / 20) {
+            let part: Part = (1, &entry.key, b"v");
+            add_refused(compare, Format::Vpd, &[1, 4], &image, part, 8);
+        }
+        let last: Part = (1, &entries[count - 1].key, b"v");
+        add_refused(compare, Format::Vpd, &[1, 4], &image, last, 8);
+    }
+    let sku = bytes(SKU);
+    for key in [&b"sku"[..], b"SKu", b"SK", b"SKUU", b"_SKU", b"KSU"] {
+        let new = Entry::with_key(1, key.to_vec(), b"v".to_vec());
+        let entries = [&sku[..8], &new.bytes(Format::Vpd)].concat();
+        let made = around(Format::Vpd, &entries);
+        adds(compare, Format::Vpd, &EDITIONS, &sku, (1, key, b"v"), &made);
     }
 }
 
