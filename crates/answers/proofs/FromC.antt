@@ -6,7 +6,7 @@ use mathlib.Core.List.{List, [], _∷_, _++_, append-assoc, append-nil, map}
 use mathlib.Core.Bool.{Bool, true, false}
 use native.Mathlib.Omega.{arith}
 use lib.ListN.{length, getD, take, drop, replicate, length-append, length-replicate}
-use lib.Seq.{drop-at, getD-take, getD-append-add}
+use lib.Seq.{take-at, drop-at, getD-take, getD-append-add}
 use lib.Dec.{leb, eqb}
 use borrow.Author.Tests.{eqb-true, le-leb}
 use Rattle.layout.specs.declared.Format.{Format}
@@ -365,18 +365,23 @@ change-from-c call makes low keeps f o n image out bs le z y outBytes =
     let answer = call f o image out .answer in
     kept-from-c bs outBytes (keeps f o n image (c .0) out (countOf (packed (toldMade answer))) le (c .1) (made-taken changeNumbers farthest refl answer (low f o image out) y))
 
--- the first field in lent bytes
-first-field : (x : Field) (more : List ℕ) → Each (λ w. w < 4294967296) (fieldWords x) → (rest : List Field) × (fieldsIn (wordsBytes (fieldWords x) ++ more) ≡ x ∷ rest)
+-- the first field in lent bytes, and what is made of the others
+first-field : (s : List ℕ) → 20 ≤ length s → (rest : List Field) × (fieldsIn s ≡ fieldAt s ∷ rest)
 unfolding fieldsIn
-first-field x more fits =
-    let bytes : List ℕ = wordsBytes (fieldWords x) ++ more in
-    let long : length bytes ≡ suc (19 + length more) = omega (arith, length-append (wordsBytes (fieldWords x)) more, length-words (fieldWords x)) in (
-      items 20 fieldAt (19 + length more) (drop 20 bytes),
-      ap (λ (n : ℕ). items 20 fieldAt n bytes) long ∙ items-more 20 fieldAt (19 + length more) bytes (omega arith)
-          ∙ ap (λ (y : Field). y ∷ items 20 fieldAt (19 + length more) (drop 20 bytes)) (field-back x more fits),
-    )
+first-field s le =
+    let long : length s ≡ suc (length s - 1) = omega arith in
+    (items 20 fieldAt (length s - 1) (drop 20 s), ap (λ (n : ℕ). items 20 fieldAt n s) long ∙ items-more 20 fieldAt (length s - 1) s le)
 
--- no other field is looked at
+-- it goes by the first 20 bytes
+field-front : (field more : List ℕ) → length field ≡ 20 → fieldAt (field ++ more) ≡ fieldAt field
+field-front field more long =
+    let byte : (k : ℕ) → k < 20 → getD (field ++ more) k 0 ≡ getD field k 0
+    = λ k lt. sym (getD-take 20 (field ++ more) k 0 lt) ∙ ap (λ (s : List ℕ). getD s k 0) (take-at field more 20 long) in
+    let same : (k : ℕ) → k + 4 ≤ 20 → word k (field ++ more) ≡ word k field
+    = λ k le. rw (byte k (omega arith), byte (k + 1) (omega arith), byte (k + 2) (omega arith), byte (k + 3) (omega arith)) in
+    rw (same 0 (omega arith), same 4 (omega arith), same 8 (omega arith), same 12 (omega arith), same 16 (omega arith))
+
+-- and no other field is looked at
 first-only : (f e : ℕ) (image : List ℕ) (x : Field) (xs ys : List Field) (values out : List ℕ) → addField f e image (x ∷ xs) values out ≡ addField f e image (x ∷ ys) values out
 unfolding addition mayAdd
 first-only f e image x xs ys values out = refl
@@ -385,13 +390,15 @@ add-from-c : AddFromC
 unfolding fieldsIn
 add-from-c =
     record {
-      changed = λ x more values fits.
-          let first = first-field x more fits in
-          rw (first .1) (change-from-c (adds (x ∷ first .0) values) (λ f. Added f (fieldSays f values x)) (λ f e image out. added-low f e image (x ∷ first .0) values out) (older-adds x (first .0) values));
-      unread = λ x more values fits f e image out.
-          let long = first-field x more fits in
-          let alone = rw (append-nil (wordsBytes (fieldWords x))) at (first-field x [] fits) in
-          rw (long .1, alone .1) (ap made (first-only f e image x (long .0) (alone .0) values out));
+      changed = λ x values fits.
+          let bytes : List ℕ = wordsBytes (fieldWords x) in
+          let first = first-field bytes (omega (arith, length-words (fieldWords x))) in
+          let is : fieldsIn bytes ≡ x ∷ first .0 = first .1 ∙ ap (λ (y : Field). y ∷ first .0) (rw (append-nil bytes) at (field-back x [] fits)) in
+          rw is (change-from-c (adds (x ∷ first .0) values) (λ f. Added f (fieldSays f values x)) (λ f e image out. added-low f e image (x ∷ first .0) values out) (older-adds x (first .0) values));
+      unread = λ field more values long f e image out.
+          let whole = first-field (field ++ more) (omega (arith, length-append field more)) in
+          let alone = first-field field (omega arith) in
+          rw (whole .1, alone .1, field-front field more long) (ap made (first-only f e image (fieldAt field) (whole .0) (alone .0) values out));
       short = λ f e image field values out lt le z.
           let c = check-counts f e image z in
           rw (items-none 20 fieldAt (length field) field lt) (ap packed (add-rule .adds f e image (c .0) (c .1) .noField values out le));

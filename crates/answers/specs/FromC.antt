@@ -174,12 +174,11 @@ ChangeFromC call makes =
     let output = call f o image out .memory in
     Bytes output → ChangedFromC f n image (makes f) output (countOf (call f o image out .answer))
 
--- an addition: of a field whose words fit, whatever bytes follow it. With fewer than 20 bytes it is 13 at 0, after the image's own refusals
+-- an addition, of a field in 20 bytes; bytes past those are not looked at. With fewer it is 13 at 0, where the image is accepted
 pub record AddFromC : Type 0 where
-  pub changed : (x : Field) (more values : List ℕ) → Each (λ w. w < 4294967296) (fieldWords x) →
-      ChangeFromC (λ f e image out. addCall f e image (wordsBytes (fieldWords x) ++ more) values out) (λ f. Added f (fieldSays f values x))
-  pub unread : (x : Field) (more values : List ℕ) → Each (λ w. w < 4294967296) (fieldWords x) → (f e : ℕ) (image out : List ℕ) →
-      addCall f e image (wordsBytes (fieldWords x) ++ more) values out ≡ addCall f e image (wordsBytes (fieldWords x)) values out
+  pub changed : (x : Field) (values : List ℕ) → Each (λ w. w < 4294967296) (fieldWords x) →
+      ChangeFromC (λ f e image out. addCall f e image (wordsBytes (fieldWords x)) values out) (λ f. Added f (fieldSays f values x))
+  pub unread : (field more values : List ℕ) → length field ≡ 20 → (f e : ℕ) (image out : List ℕ) → addCall f e image (field ++ more) values out ≡ addCall f e image field values out
   pub short : (f e : ℕ) (image field values out : List ℕ) → length field < 20 → length out ≤ 65536 → numberOf (checkCall f e image) ≡ 0 →
       addCall f e image field values out .answer ≡ packed (toldRefusal (refusal 13 0))
 

@@ -103,6 +103,7 @@ cases =
     -- 14: not named in this edition; before 7, 8 and 12. Then 7, before 8 and 12; then 8, before 12
     ∷ unadds 2 1 sku (keyedField 0xFE 0 1 0 3 ∷ []) (text "PNX") 0 (refusal 14 0)
     ∷ unadds 2 1 skuAndFeh (keyedField 0xFE 0 1 0 3 ∷ []) (text "PNX") 0 (refusal 14 0)
+    ∷ unadds 2 2 sku (keyedField 0xFE 0 1 0 3 ∷ []) (text "PNX") 0 (refusal 7 0)
     ∷ unadds 1 1 withBlock (field 17 0 7 ∷ []) (replicate 7 0) 0 (refusal 14 0)
     ∷ sweeps 22 (λ c. adding 1 1 (fbossOf five 0x4826) c (text "2")) 14 (0 ∷ run 17 21)
     ∷ sweeps 22 (λ c. adding 1 2 (fbossOf five 0x4826) c (text "2")) 12 (2 ∷ 6 ∷ 7 ∷ 12 ∷ 14 ∷ 15 ∷ 16 ∷ [])

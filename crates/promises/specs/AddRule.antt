@@ -27,7 +27,7 @@ use Rattle.promises.specs.OlderChanges.{Added}
 
 -- ---- what an addition puts out
 
--- an image with an entry more, which says c: nothing in it could be shorter, and it stands last, in Tiny before a pool
+-- an image with an entry more, which says c: no bytes open it or say its value's length shorter, and it stands last, in Tiny before a pool
 pub record AddedTo (f e : ℕ) (image : List ℕ) (c : Content) (memory out : List ℕ) (m : ℕ) : Type 0 where
   pub format : Format
   -- what the entries before say, and those after

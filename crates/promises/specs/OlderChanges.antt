@@ -20,7 +20,7 @@ pub record Kept (f n : ℕ) (image : List ℕ) (Makes : List Content → List Co
   pub whole : Reads f n output latter
   pub front : Reads f n (take m output) latter
 
--- o and n are editions that have the format, o no newer than n: that they are follows from what they did not refuse
+-- o is no newer than n; that both are editions that have the format follows from what they did not refuse
 abbrev pub Keeps : Changes → (ℕ → List Content → List Content → Type 0) → Type 0
 Keeps call makes =
     (f o n : ℕ) (image : List ℕ) (count : ℕ) (out : List ℕ) (m : ℕ) → o ≤ n → Counts (tellsCheck f n image) count →

@@ -12,8 +12,8 @@ use Rattle.laws.specs.Grammar.{grammar, Entries}
 use Rattle.promises.specs.Words.{Serves}
 use Rattle.promises.specs.Written.{Written}
 
--- an image whose entries had the bytes `old`, and have `new` in their place in the output, for an entry of this code. The entries before it say `contents` and those after it `later`,
--- and are the same bytes in both
+-- an entry of this code had the bytes `old` in the image, and has `new` in the output; `old` is empty where it was added, and `new` where it was removed. The entries before it say `contents`
+-- and those after it `later`, and are the same bytes in both
 pub record Relaid (f e : ℕ) (image : List ℕ) (format : Format) (contents later : List Content) (code : ℕ) (old new memory out : List ℕ) (m : ℕ) : Type 0 where
   pub serves : Serves f e format
   -- the entries before, and those after

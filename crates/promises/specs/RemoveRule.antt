@@ -2,22 +2,24 @@
 -- Assumes nothing.
 use Prim.Native.Nat.{ℕ, _+_, _-_, _≤_}
 use mathlib.Core.Path.{_≡_}
-use mathlib.Core.List.{List, [], _∷_}
+use mathlib.Core.List.{List, [], _∷_, _++_}
 use mathlib.Core.Bool.{true, false}
 use lib.ListN.{length, take}
 use Rattle.layout.specs.declared.Format.{Format}
 use Rattle.layout.specs.declared.Entry.{Entry}
 use Rattle.layout.specs.declared.Field.{Field}
 use Rattle.layout.specs.Bytes.{oneOf, refusal}
+use Rattle.layout.specs.Editions.{shape}
 use Rattle.layout.specs.Walk.{Content}
 use Rattle.layout.specs.Calls.{Told, toldRefusal}
 use Rattle.layout.specs.Add.{addField}
 use Rattle.layout.specs.Remove.{removeEntry}
 use Rattle.laws.specs.Grammar.{grammar, EntryOf}
-use Rattle.promises.specs.Words.{Counts, Item, Reads, tellsCheck, tellsAdd, tellsRemove}
+use Rattle.promises.specs.Words.{Serves, Counts, Item, Reads, tellsCheck, tellsAdd, tellsRemove}
 use Rattle.promises.specs.Names.{Named}
 use Rattle.promises.specs.Listing.{ListOf}
-use Rattle.promises.specs.Written.{endSize, Fits}
+use Rattle.promises.specs.RoundTrip.{fieldSays}
+use Rattle.promises.specs.Written.{Written, entriesSize, endSize, Fits}
 use Rattle.promises.specs.Writing.{required}
 use Rattle.promises.specs.Relaid.{Relaid}
 
@@ -65,23 +67,33 @@ pub record RemoveRule : Type 0 where
 
 -- ---- an addition undone
 
--- the removal of entry i of this image is taken, and edition n reads what is left as cs, whole and up to the length given
-pub record Undone (f e n : ℕ) (image : List ℕ) (i : ℕ) (out : List ℕ) (cs : List Content) : Type 0 where
-  pub length : ℕ
-  pub taken : Counts (tellsRemove f e image i out) length
-  pub whole : Reads f n (removeEntry f e image i out .memory) cs
-  pub front : Reads f n (take length (removeEntry f e image i out .memory)) cs
+-- the removal of entry i of this image by edition r is taken, and is the image that the writer makes of these bytes of entries; edition n reads cs there, whole and up to the length given
+pub record Undone (f r n : ℕ) (format : Format) (image : List ℕ) (i : ℕ) (out entries : List ℕ) (cs : List Content) : Type 0 where
+  pub long : ℕ
+  pub taken : Counts (tellsRemove f r image i out) long
+  pub written : Written format entries (take long (removeEntry f r image i out .memory))
+  pub whole : Reads f n (removeEntry f r image i out .memory) cs
+  pub front : Reads f n (take long (removeEntry f r image i out .memory)) cs
 
--- an entry that edition e added, and which edition n reads as entry i, e removes again, from the whole output and from its part up to the length given, into any output that is not
--- shorter; and n reads its former list
-pub record AddUndone (f e n : ℕ) (image output : List ℕ) (m : ℕ) : Type 0 where
+-- edition n read `former` in an image of these bytes of entries, and reads `latter` after edition e has added an entry that says c, which is the one of this number. Every edition r that names
+-- it, no newer than n, removes it again, from the whole output and from its part up to the length given, into any output that has room for the rest; and n reads its former list
+pub record AddUndone (f n : ℕ) (image : List ℕ) (c : Content) (output : List ℕ) (m : ℕ) : Type 0 where
+  pub format : Format
   pub former : List Content
   pub before : Reads f n image former
+  pub entries : List ℕ
+  pub rest : List ℕ
+  pub stood : image ≡ shape format .header (length entries) ++ (entries ++ rest)
+  pub latter : List Content
+  pub after : Reads f n output latter
   pub number : ℕ
-  pub whole : (out : List ℕ) → m ≤ length out → length out ≤ 65536 → Undone f e n output number out former
-  pub front : (out : List ℕ) → m ≤ length out → length out ≤ 65536 → Undone f e n (take m output) number out former
+  pub there : Item latter number c
+  pub whole : (r : ℕ) → Serves f r format → r ≤ n → Named format r (c .code) → (out : List ℕ) → m ≤ length out + entriesSize format (c ∷ []) → length out ≤ 65536 →
+      Undone f r n format output number out entries former
+  pub front : (r : ℕ) → Serves f r format → r ≤ n → Named format r (c .code) → (out : List ℕ) → m ≤ length out + entriesSize format (c ∷ []) → length out ≤ 65536 →
+      Undone f r n format (take m output) number out entries former
 
 abbrev pub AddsUndone : Type 0
 AddsUndone =
     (f e n : ℕ) (image : List ℕ) (count : ℕ) (x : Field) (more : List Field) (values out : List ℕ) (m : ℕ) → e ≤ n → Counts (tellsCheck f n image) count →
-    Counts (tellsAdd f e image (x ∷ more) values out) m → AddUndone f e n image (addField f e image (x ∷ more) values out .memory) m
+    Counts (tellsAdd f e image (x ∷ more) values out) m → AddUndone f n image (fieldSays f values x) (addField f e image (x ∷ more) values out .memory) m
