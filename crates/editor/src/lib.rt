@@ -201,18 +201,9 @@ fn edit_at(
     }
     let key = &value[..0];
     let x = Fresh::Value(code);
-    put_between(
-        out,
-        format,
-        x,
-        key,
-        value,
-        image,
-        start,
-        p + f.at,
-        p + f.size,
-        over,
-    )
+    let cut = p + f.at;
+    let next = p + f.size;
+    put_between(out, format, x, key, value, image, start, cut, next, over)
 }
 
 // The image with another value for entry i, into the output; a refusal leaves the output as it was.
@@ -244,7 +235,7 @@ pub fn edit_entry(
 
 // ---- remove
 
-// The entries without the one with the frame f at p: 14, 11, then 12. The entries begin at `start` and end at `over`.
+// The entries without the one with the frame f at `at`: 14, 11, then 12. The entries begin at `start` and end at `over`.
 fn remove_at(
     out: &mut [u8],
     format: Format,
@@ -252,34 +243,23 @@ fn remove_at(
     image: &[u8],
     start: usize,
     over: usize,
-    p: usize,
+    at: usize,
     f: Frame,
 ) -> Made
-    requires { ⌜ (length (now out) ≤ limit) × Within (now image) start over p f ⌝ }
-    ensures { λ r. ⌜ r ≡ removeAt (shape format) edition (now (image .entry)) start over p f (now (out .entry)) .answer ⌝ }
-    ensures { λ r. ⌜ now (out .exit) ≡ removeAt (shape format) edition (now (image .entry)) start over p f (now (out .entry)) .memory ⌝ }
+    requires { ⌜ (length (now out) ≤ limit) × Within (now image) start over at f ⌝ }
+    ensures { λ r. ⌜ r ≡ removeAt (shape format) edition (now (image .entry)) start over at f (now (out .entry)) .answer ⌝ }
+    ensures { λ r. ⌜ now (out .exit) ≡ removeAt (shape format) edition (now (image .entry)) start over at f (now (out .entry)) .memory ⌝ }
 {
-    let code = f.code;
-    if !frames::is_named(format, edition, code) {
-        return refused(14, p);
+    if !frames::is_named(format, edition, f.code) {
+        return refused(14, at);
     }
-    if frames::is_required(format, code) {
+    if frames::is_required(format, f.code) {
         return refused(11, 0);
     }
     let none = &image[..0];
     let x = Fresh::Nothing;
-    put_between(
-        out,
-        format,
-        x,
-        none,
-        none,
-        image,
-        start,
-        p,
-        p + f.size,
-        over,
-    )
+    let next = at + f.size;
+    put_between(out, format, x, none, none, image, start, at, next, over)
 }
 
 // The image without entry i, into the output; a refusal leaves the output as it was.
@@ -291,8 +271,8 @@ pub fn remove_entry(out: &mut [u8], format: u32, edition: u32, image: &[u8], i: 
         Taken::Isnt(r) => Made::Unwritten(r),
         Taken::Is(room) => {
             let g = room.format;
-            let s = frames::find_frame(g, image, room.start, room.end, i);
-            match s {
+            let spot = frames::find_frame(g, image, room.start, room.end, i);
+            match spot {
                 Spot::Nowhere => refused(13, 0),
                 Spot::At(f, p) => remove_at(out, g, edition, image, room.start, room.over, p, f),
             }
@@ -388,21 +368,22 @@ pub fn add_field(
         Taken::Isnt(r) => Made::Unwritten(r),
         Taken::Is(room) => {
             if fields::count_fields(field) == 0 {
-                return refused(13, 0);
+                refused(13, 0)
+            } else {
+                let g = room.format;
+                let x = fields::field_at(field, 0);
+                add_at(
+                    out,
+                    g,
+                    edition,
+                    image,
+                    room.start,
+                    room.end,
+                    room.over,
+                    x,
+                    values,
+                )
             }
-            let g = room.format;
-            let x = fields::field_at(field, 0);
-            add_at(
-                out,
-                g,
-                edition,
-                image,
-                room.start,
-                room.end,
-                room.over,
-                x,
-                values,
-            )
         }
     }
 }

@@ -31,12 +31,6 @@ count-fields-requires c κs = search needs
 refused-requires : tie.Need-refused-requires
 refused-requires c κs = search needs
 
-returns : tie.Need-returns
-returns c =
-    let a = c .before .before .before .before .before .before .before .before .before .before .before .args in
-    let taken = sym (c .before .before .before .before .before .before .take-for .ensures) ∙ c .before .before .before .before .t2 .given .1 in
-    rw (c .refused .ensures) (outcome (add-none (a .format) (a .edition) (now (a .image)) (now (a .out)) _ taken (now (a .values)) (fieldsIn (now (a .field))) (sym (c .before .before .count-fields .ensures) ∙ c .before .if1 .taken)))
-
 field-at-requires : tie.Need-field-at-requires
 field-at-requires c κs = search needs
 
@@ -46,10 +40,16 @@ add-at-requires c κs =
     let taken = sym (c .before .before .before .before .before .before .before .take-for .ensures) ∙ c .before .before .before .before .before .t2 .given .1 in
     add-ready (a .format) (a .edition) (now (a .image)) (now (a .out)) _ taken (now (a .values))
 
-returns-2 : tie.Need-returns-2
-returns-2 c =
+returns : tie.Need-returns
+returns c =
     let a = c .before .before .before .before .before .before .before .before .args in
     outcome (change-refused (addition (fieldsIn (now (a .field))) (now (a .values))) (a .format) (a .edition) (now (a .image)) (now (a .out)) _ (sym (c .before .before .before .take-for .ensures) ∙ c .before .t .given .1))
+
+returns-2 : tie.Need-returns-2
+returns-2 c =
+    let a = c .before .before .before .before .before .before .before .before .before .before .before .args in
+    let taken = sym (c .before .before .before .before .before .before .take-for .ensures) ∙ c .before .before .before .before .t2 .given .1 in
+    rw (c .refused .ensures) (outcome (add-none (a .format) (a .edition) (now (a .image)) (now (a .out)) _ taken (now (a .values)) (fieldsIn (now (a .field))) (sym (c .before .before .count-fields .ensures) ∙ c .before .if1 .taken)))
 
 same-length : tie.Need-same-length
 same-length c = search needs
@@ -74,9 +74,9 @@ add-field-spec =
     enum-known-t-2
     count-fields-requires
     refused-requires
-    returns
     field-at-requires
     add-at-requires
+    returns
     returns-2
     same-length
     returns-3)

@@ -50,11 +50,11 @@ returns-3 c =
 slice-aggregate-key : tie.Need-slice-aggregate-key
 slice-aggregate-key c = search needs
 
-add-put-between : tie.Need-add-put-between
-add-put-between c = search needs
+add-cut : tie.Need-add-cut
+add-cut c = search needs
 
-add-put-between-2 : tie.Need-add-put-between-2
-add-put-between-2 c = search needs
+add-next : tie.Need-add-next
+add-next c = search needs
 
 put-between-requires : tie.Need-put-between-requires
 put-between-requires c κs =
@@ -86,8 +86,8 @@ edit-at-spec =
     refused-requires-3
     returns-3
     slice-aggregate-key
-    add-put-between
-    add-put-between-2
+    add-cut
+    add-next
     put-between-requires
     same-length
     returns-4)

@@ -21,7 +21,7 @@ refused-requires c κs = search needs
 returns : tie.Need-returns
 returns c =
     let a = c .before .before .before .before .before .args in
-    rw (c .refused .ensures) (outcome (remove-unnamed (shape (a .format)) (a .edition) (now (a .image)) (a .start) (a .over) (a .p) (a .f) (now (a .out)) (sym (c .before .before .is-named .ensures) ∙ not-true (c .before .before .is-named .result) (c .before .if1 .taken))))
+    rw (c .refused .ensures) (outcome (remove-unnamed (shape (a .format)) (a .edition) (now (a .image)) (a .start) (a .over) (a .at) (a .f) (now (a .out)) (sym (c .before .before .is-named .ensures) ∙ not-true (c .before .before .is-named .result) (c .before .if1 .taken))))
 
 is-required-requires : tie.Need-is-required-requires
 is-required-requires c κs = search needs
@@ -32,13 +32,13 @@ refused-requires-2 c κs = search needs
 returns-2 : tie.Need-returns-2
 returns-2 c =
     let a = c .before .before .before .before .before .before .before .args in
-    rw (c .refused2 .ensures) (outcome (remove-required (shape (a .format)) (a .edition) (now (a .image)) (a .start) (a .over) (a .p) (a .f) (now (a .out)) (sym (c .before .before .before .before .is-named .ensures) ∙ not-false (c .before .before .before .before .is-named .result) (c .before .before .before .if1 .left)) (sym (c .before .before .is-required .ensures) ∙ c .before .if2 .taken)))
+    rw (c .refused2 .ensures) (outcome (remove-required (shape (a .format)) (a .edition) (now (a .image)) (a .start) (a .over) (a .at) (a .f) (now (a .out)) (sym (c .before .before .before .before .is-named .ensures) ∙ not-false (c .before .before .before .before .is-named .result) (c .before .before .before .if1 .left)) (sym (c .before .before .is-required .ensures) ∙ c .before .if2 .taken)))
 
 slice-aggregate-none : tie.Need-slice-aggregate-none
 slice-aggregate-none c = search needs
 
-add-put-between : tie.Need-add-put-between
-add-put-between c = search needs
+add-next : tie.Need-add-next
+add-next c = search needs
 
 put-between-requires : tie.Need-put-between-requires
 put-between-requires c κs = search needs
@@ -50,7 +50,7 @@ returns-3 : tie.Need-returns-3
 unfolding spliced
 returns-3 c =
     let a = c .before .before .before .before .before .before .before .before .before .before .before .before .args in
-    let q = remove-put (shape (a .format)) (a .edition) (now (a .image)) (a .start) (a .over) (a .p) (a .f) (now (a .out)) (sym (c .before .before .before .before .before .before .before .before .before .is-named .ensures) ∙ not-false (c .before .before .before .before .before .before .before .before .before .is-named .result) (c .before .before .before .before .before .before .before .before .if1 .left)) (sym (c .before .before .before .before .before .before .before .is-required .ensures) ∙ c .before .before .before .before .before .before .if2 .left) in
+    let q = remove-put (shape (a .format)) (a .edition) (now (a .image)) (a .start) (a .over) (a .at) (a .f) (now (a .out)) (sym (c .before .before .before .before .before .before .before .before .before .is-named .ensures) ∙ not-false (c .before .before .before .before .before .before .before .before .before .is-named .result) (c .before .before .before .before .before .before .before .before .if1 .left)) (sym (c .before .before .before .before .before .before .before .is-required .ensures) ∙ c .before .before .before .before .before .before .if2 .left) in
     (c .before .before .put-between .ensures .0 ∙ sym (ap (λ (x : Outcome). x .answer) q), c .before .before .put-between .ensures .1 ∙ sym (ap (λ (x : Outcome). x .memory) q))
 
 pub remove-at-spec : {M : Type 1} → statement M
@@ -64,7 +64,7 @@ remove-at-spec =
     refused-requires-2
     returns-2
     slice-aggregate-none
-    add-put-between
+    add-next
     put-between-requires
     same-length
     returns-3)

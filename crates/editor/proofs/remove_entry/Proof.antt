@@ -29,15 +29,15 @@ enum-told c = search needs
 refused-requires : tie.Need-refused-requires
 refused-requires c κs = search needs
 
-enum-known-s : tie.Need-enum-known-s
-enum-known-s c = search needs
+enum-known-spot : tie.Need-enum-known-spot
+enum-known-spot c = search needs
 
 remove-at-requires : tie.Need-remove-at-requires
 remove-at-requires c κs =
     let a = c .before .before .before .before .before .before .before .before .before .before .before .args in
     let taken = sym (c .before .before .before .before .before .before .before .before .take-for .ensures) ∙ c .before .before .before .before .before .before .t2 .given .1 in (
       taken-is (length (now (a .out))) (a .format) (a .edition) (now (a .image)) taken .0,
-      remove-here (a .format) (a .edition) (now (a .image)) (now (a .out)) _ taken (a .i) _ _ (sym (c .before .before .before .before .find-frame .ensures) ∙ c .before .before .s .given .1) .0,
+      remove-here (a .format) (a .edition) (now (a .image)) (now (a .out)) _ taken (a .i) _ _ (sym (c .before .before .before .before .find-frame .ensures) ∙ c .before .before .spot .given .1) .0,
     )
 
 returns : tie.Need-returns
@@ -58,7 +58,7 @@ returns-3 : tie.Need-returns-3
 returns-3 c =
     let a = c .before .before .before .before .before .before .before .before .before .before .before .before .before .before .args in
     let taken = sym (c .before .before .before .before .before .before .before .before .before .before .before .take-for .ensures) ∙ c .before .before .before .before .before .before .before .before .before .t2 .given .1 in
-    let q = remove-here (a .format) (a .edition) (now (a .image)) (now (a .out)) _ taken (a .i) _ _ (sym (c .before .before .before .before .before .before .before .find-frame .ensures) ∙ c .before .before .before .before .before .s .given .1) .1 in
+    let q = remove-here (a .format) (a .edition) (now (a .image)) (now (a .out)) _ taken (a .i) _ _ (sym (c .before .before .before .before .before .before .before .find-frame .ensures) ∙ c .before .before .before .before .before .spot .given .1) .1 in
     (c .before .before .remove-at .ensures .0 ∙ sym (ap (λ (x : Outcome). x .answer) q), c .before .before .remove-at .ensures .1 ∙ sym (ap (λ (x : Outcome). x .memory) q))
 
 pub remove-entry-spec : {M : Type 1} → statement M
@@ -71,7 +71,7 @@ remove-entry-spec =
     find-frame-requires
     enum-told
     refused-requires
-    enum-known-s
+    enum-known-spot
     remove-at-requires
     returns
     returns-2
