@@ -470,6 +470,103 @@ fn run_edits(image: &[u8]) {
     say(b"sku edited in seven bytes, refused", is_not_edited(image));
 }
 
+// An image with an entry for a field, in 18 bytes of output.
+fn is_added(format: u32, image: &[u8], field: &[u8], values: &[u8], n: usize, made: &[u8]) -> bool {
+    let mut out = [0xAAu8; 18];
+    let m = editor::add_field(&mut out, format, 1, image, field, values);
+    is_made(m, n) & parts::same_bytes(&out, made)
+}
+
+// An addition that is refused, at 0; the output stays as it was.
+fn is_not_added(format: u32, image: &[u8], field: &[u8], values: &[u8], number: u32) -> bool {
+    let mut out = [0xAAu8; 4];
+    let m = editor::add_field(&mut out, format, 1, image, field, values);
+    is_unmade(m, number, 0) & parts::same_bytes(&out, b"\xAA\xAA\xAA\xAA")
+}
+
+// An image without entry i, in seven bytes of output.
+fn is_removed(format: u32, image: &[u8], i: usize, n: usize, made: &[u8]) -> bool {
+    let mut out = [0xAAu8; 7];
+    let m = editor::remove_entry(&mut out, format, 1, image, i);
+    is_made(m, n) & parts::same_bytes(&out, made)
+}
+
+// A removal that is refused; the output stays as it was.
+fn is_not_removed(format: u32, image: &[u8], i: usize, number: u32, place: usize) -> bool {
+    let mut out = [0xAAu8; 4];
+    let m = editor::remove_entry(&mut out, format, 1, image, i);
+    is_unmade(m, number, place) & parts::same_bytes(&out, b"\xAA\xAA\xAA\xAA")
+}
+
+// Additions to the SKU image: a field has its key at 0 and its value at 3 of the values.
+fn run_additions(image: &[u8], field: &[u8]) {
+    say(
+        b"rev added",
+        is_added(
+            2,
+            image,
+            field,
+            b"REVB2",
+            17,
+            b"\x01\x03SKU\x02A7\x01\x03REV\x02B2\x00\xFF",
+        ),
+    );
+    say(
+        b"second sku added, refused",
+        is_not_added(2, image, field, b"SKUB2", 8),
+    );
+    say(
+        b"r.v added, refused",
+        is_not_added(2, image, field, b"R.VB2", 7),
+    );
+    say(
+        b"rev added in four bytes, refused",
+        is_not_added(2, image, field, b"REVB2", 12),
+    );
+    say(
+        b"field of 19 bytes added, refused",
+        is_not_added(2, image, &field[..19], b"REVB2", 13),
+    );
+}
+
+// Additions to the image with a pool, and removals from it.
+fn run_pool_changes(image: &[u8], field: &[u8]) {
+    say(
+        b"tests added before the pool",
+        is_added(
+            3,
+            image,
+            field,
+            b"\x01",
+            16,
+            b"\x56\x02\x10\x10\x00\x11\x01\x01\x06AB\xC3D\xC5F\xE7\xFF\xFF",
+        ),
+    );
+    say(
+        b"pool removed",
+        is_removed(3, image, 1, 6, b"\x56\x02\x06\x10\x00\xB7\xFF"),
+    );
+}
+
+fn run_removals(image: &[u8], full: &[u8; 8192]) {
+    say(
+        b"sku removed",
+        is_removed(2, image, 0, 1, b"\x00\xFF\xFF\xFF\xFF\xFF\xFF"),
+    );
+    say(
+        b"entry 1 of one removed, refused",
+        is_not_removed(2, image, 1, 13, 0),
+    );
+    say(
+        b"required field removed, refused",
+        is_not_removed(1, full, 0, 11, 0),
+    );
+    say(
+        b"field without a name removed, refused",
+        is_not_removed(1, full, 16, 14, 166),
+    );
+}
+
 fn run_writes(fields: &[u8]) {
     say(b"sku written", is_written(fields));
     say(b"value after the values, refused", is_not_written(fields));
@@ -500,6 +597,11 @@ fn main() {
     run_full(&image);
     run_pairs();
     run_edits(b"\x01\x03SKU\x02A7\x00");
+    run_additions(
+        b"\x01\x03SKU\x02A7\x00",
+        b"\x01\x00\x00\x00\x00\x00\x00\x00\x03\x00\x00\x00\x03\x00\x00\x00\x02\x00\x00\x00",
+    );
+    run_removals(b"\x01\x03SKU\x02A7\x00", &image);
     run_writes(b"\x01\x00\x00\x00\x00\x00\x00\x00\x03\x00\x00\x00\x03\x00\x00\x00\x02\x00\x00\x00");
     run_names(
         b"\x01\x08lab.rack\x02R2\x00",
@@ -518,4 +620,8 @@ fn main() {
         b"TlvInfo\x00\x01\x00\x06\xFE\x04\xD4C\x1C\x18",
     );
     run_pool(b"\x56\x02\x0E\x10\x00\x01\x06AB\xC3D\xC5F\x2F");
+    run_pool_changes(
+        b"\x56\x02\x0E\x10\x00\x01\x06AB\xC3D\xC5F\x2F",
+        b"\x11\x00\x00\x00\x00\x00\x00\x00\x00\x00\x00\x00\x00\x00\x00\x00\x01\x00\x00\x00",
+    );
 }
