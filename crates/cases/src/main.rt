@@ -499,7 +499,7 @@ fn is_not_removed(format: u32, image: &[u8], i: usize, number: u32, place: usize
 }
 
 // Additions to the SKU image: a field has its key at 0 and its value at 3 of the values.
-fn run_additions(image: &[u8], field: &[u8]) {
+fn run_additions(image: &[u8], field: &[u8], cut: &[u8]) {
     say(
         b"rev added",
         is_added(
@@ -525,7 +525,7 @@ fn run_additions(image: &[u8], field: &[u8]) {
     );
     say(
         b"field of 19 bytes added, refused",
-        is_not_added(2, image, &field[..19], b"REVB2", 13),
+        is_not_added(2, image, cut, b"REVB2", 13),
     );
 }
 
@@ -600,6 +600,7 @@ fn main() {
     run_additions(
         b"\x01\x03SKU\x02A7\x00",
         b"\x01\x00\x00\x00\x00\x00\x00\x00\x03\x00\x00\x00\x03\x00\x00\x00\x02\x00\x00\x00",
+        b"\x01\x00\x00\x00\x00\x00\x00\x00\x03\x00\x00\x00\x03\x00\x00\x00\x02\x00\x00",
     );
     run_removals(b"\x01\x03SKU\x02A7\x00", &image);
     run_writes(b"\x01\x00\x00\x00\x00\x00\x00\x00\x03\x00\x00\x00\x03\x00\x00\x00\x02\x00\x00\x00");
