@@ -13,10 +13,10 @@ use Rattle.layout.specs.declared.Next.the-variants.{Framed, Ended, Broken}
 use Rattle.layout.specs.Bytes.{if, part}
 use Rattle.layout.specs.Shape.{Shape, Label, next, fine}
 use Rattle.layout.specs.Editions.{shape, names}
-use Rattle.layout.specs.Walk.{Raw, Content, content, labelOf, Walked, done, stop, more, walk}
+use Rattle.layout.specs.Walk.{Raw, Content, content, labelOf, Walked, done, stop, more, walk, labelsOf}
 use Rattle.layout.specs.Read.{seenBefore, readerRule, fault, judge, complete, codesOf}
 use Rattle.laws.specs.Marked.{allMarked}
-use Rattle.laws.specs.Passes.{walked, labels}
+use Rattle.laws.specs.Passes.{walked}
 use Rattle.laws.proofs.Frames.{rawOf}
 use Rattle.laws.proofs.Lists.{joined-append}
 use Rattle.laws.proofs.Marks.{Marks, none-marked, one-marked, marked-complete}
@@ -56,8 +56,8 @@ module _ (S : Shape) (e : ℕ) (seen : List Label) (c : Content) where
 codes-snoc : (rs : List Raw) (r : Raw) → codesOf (rs ++ (r ∷ [])) ≡ codesOf rs ++ (r .frame .code ∷ [])
 codes-snoc rs r = joined-append codesOf (λ x. x .frame .code ∷ []) refl (λ x xs. refl) rs (r ∷ [])
 
-labels-snoc : (rs : List Raw) (r : Raw) → labels (rs ++ (r ∷ [])) ≡ labels rs ++ (labelOf (content r) ∷ [])
-labels-snoc rs r = joined-append labels (λ x. labelOf (content x) ∷ []) refl (λ x xs. refl) rs (r ∷ [])
+labels-snoc : (rs : List Raw) (r : Raw) → labelsOf (rs ++ (r ∷ [])) ≡ labelsOf rs ++ (labelOf (content r) ∷ [])
+labels-snoc rs r = joined-append labelsOf (λ x. labelOf (content x) ∷ []) refl (λ x xs. refl) rs (r ∷ [])
 
 passed-snoc : (f : Format) (image : List ℕ) (end : ℕ) (b c : Bool) (q p : ℕ) (rs : List Raw) (x : Frame) → Passed f image end b q rs c p → next (shape f) c (part p (end - p) image) ≡ Framed x →
     Passed f image end b q (rs ++ (rawOf x (part p (end - p) image) ∷ [])) (shape f .last (x .code)) (p + x .size)
@@ -66,7 +66,7 @@ passed-snoc f image end b c q p (r ∷ rs) x h n = (h .0, h .1, passed-snoc f im
 
 -- how the pass ends, where n entries are passed, the next stands at p, and the walk from there on is w
 abbrev endingFrom : Format → ℕ → List Raw → ℕ → ℕ → Walked → Ending
-endingFrom f e past n p (done rs q) = Ends (n + length rs) q (judgement (judge (shape f) e (labels past) rs p) (complete (shape f .required) (codesOf past ++ codesOf rs)))
+endingFrom f e past n p (done rs q) = Ends (n + length rs) q (judgement (judge (shape f) e (labelsOf past) rs p) (complete (shape f .required) (codesOf past ++ codesOf rs)))
 endingFrom f e past n p (stop k q) = Stops k q
 
 from-first : (f : Format) (e start : ℕ) (w : Walked) → endingOf f e w start ≡ endingFrom f e [] 0 start w
@@ -74,14 +74,14 @@ from-first f e start (done rs q) = rw (zero-add (length rs))
 from-first f e start (stop k q) = refl
 
 -- a fault is the judgement, whatever entries follow
-from-fault : (f : Format) (e : ℕ) (past : List Raw) (n p : ℕ) (r : Raw) (w : Walked) (k : ℕ) → fault (shape f) e (labels past) (content r) ≡ suc k →
+from-fault : (f : Format) (e : ℕ) (past : List Raw) (n p : ℕ) (r : Raw) (w : Walked) (k : ℕ) → fault (shape f) e (labelsOf past) (content r) ≡ suc k →
     endingFrom f e past n p (more r w) ≡ walkEnding n (Faulty (suc k) p) (more r w)
 unfolding judge
 from-fault f e past n p r (done rs q) k h = rw h
 from-fault f e past n p r (stop m q) k h = refl
 
 -- without one the pass goes on
-from-fine : (f : Format) (e : ℕ) (past : List Raw) (n p : ℕ) (r : Raw) (w : Walked) → fault (shape f) e (labels past) (content r) ≡ 0 →
+from-fine : (f : Format) (e : ℕ) (past : List Raw) (n p : ℕ) (r : Raw) (w : Walked) → fault (shape f) e (labelsOf past) (content r) ≡ 0 →
     endingFrom f e past n p (more r w) ≡ endingFrom f e (past ++ (r ∷ [])) (n + 1) (p + r .frame .size) w
 unfolding judge
 from-fine f e past n p r (done rs q) h =
@@ -94,7 +94,7 @@ pub record Along (f : Format) (e : ℕ) (image : List ℕ) (start end p n : ℕ)
   pub past : List Raw
   pub passed : Passed f image end false start past shut p
   pub isMarked : Marks (codesOf past) marks
-  pub isKnown : Knows (labels past) words
+  pub isKnown : Knows (labelsOf past) words
   pub left : endingOf f e (walked f image start end) start ≡ endingFrom f e past n p (walk (shape f) shut p (part p (end - p) image))
   pub bound : p ≤ end
   pub few : n ≤ p
@@ -131,16 +131,16 @@ module _ (f : Format) (e : ℕ) (image : List ℕ) (start end p n : ℕ) (shut :
 
     -- what is found wrong with its code, key and value, where the marks, the filter and the entries passed tell whether it comes a second time, is its fault
     pub along-judges : (key value : List ℕ) (known repeated : Bool) (k : ℕ) → key ≡ part (p + x .key) (x .klen) image → value ≡ part (p + x .val) (x .vlen) image → known ≡ mayRepeat words (x .code) key →
-        ((past : List Raw) (shut : Bool) → Passed f image end false start past shut p → Marks (codesOf past) marks → (known ≡ false → keySeen (labels past) key ≡ false) →
-        repeated ≡ seenBefore (shape f) (labels past) (record { code = x .code; key = key })) →
+        ((past : List Raw) (shut : Bool) → Passed f image end false start past shut p → Marks (codesOf past) marks → (known ≡ false → keySeen (labelsOf past) key ≡ false) →
+        repeated ≡ seenBefore (shape f) (labelsOf past) (record { code = x .code; key = key })) →
         ((seen : List Label) → repeated ≡ seenBefore (shape f) seen (record { code = x .code; key = key }) → k ≡ fault (shape f) e seen (record { code = x .code; key = key; value = value })) →
-        k ≡ fault (shape f) e (labels (w .past)) (content (rawOf x (part p (end - p) image)))
+        k ≡ fault (shape f) e (labelsOf (w .past)) (content (rawOf x (part p (end - p) image)))
     along-judges key value known repeated k isKey isValue noted sees finds =
-        let before = sees (w .past) shut (w .passed) (w .isMarked) (λ unknown. unknown-unseen (labels (w .past)) words (x .code) key (w .isKnown) (sym noted ∙ unknown)) in
-        rw (frame-says f image end shut p x nx, ← isKey, ← isValue) (finds (labels (w .past)) before)
+        let before = sees (w .past) shut (w .passed) (w .isMarked) (λ unknown. unknown-unseen (labelsOf (w .past)) words (x .code) key (w .isKnown) (sym noted ∙ unknown)) in
+        rw (frame-says f image end shut p x nx, ← isKey, ← isValue) (finds (labelsOf (w .past)) before)
 
     -- a rule is broken: the frames that follow may still be
-    pub along-fault : (k : ℕ) → k ≡ fault (shape f) e (labels (w .past)) (content (rawOf x (part p (end - p) image))) → (k ≡ 0 → ⊥) →
+    pub along-fault : (k : ℕ) → k ≡ fault (shape f) e (labelsOf (w .past)) (content (rawOf x (part p (end - p) image))) → (k ≡ 0 → ⊥) →
         endingOf f e (walked f image start end) start ≡ walkEnding n (Faulty k p) (walk (shape f) shut p (part p (end - p) image))
     along-fault zero q no-zero = absurd (no-zero refl)
     along-fault (suc k) q no-zero =
@@ -148,19 +148,19 @@ module _ (f : Format) (e : ℕ) (image : List ℕ) (start end p n : ℕ) (shut :
         w .left ∙ ap (endingFrom f e (w .past) n p) takes ∙ from-fault f e (w .past) n p (rawOf x (part p (end - p) image)) rest k (sym q) ∙ ap (walkEnding n (Faulty (suc k) p)) (sym takes)
 
     -- nothing is wrong, and the pass goes on
-    pub along-on : x .code < 256 → 0 ≡ fault (shape f) e (labels (w .past)) (content (rawOf x (part p (end - p) image))) →
+    pub along-on : x .code < 256 → 0 ≡ fault (shape f) e (labelsOf (w .past)) (content (rawOf x (part p (end - p) image))) →
         Along f e image start end (p + x .size) (n + 1) (shape f .last (x .code)) (set marks (x .code) 1) (withKey words (x .code) (part (p + x .key) (x .klen) image))
     along-on lt q =
         let r : Raw = rawOf x (part p (end - p) image) in
         let i = framed-inside f shut image p end x nx in
         let says : labelOf (content r) ≡ record { code = x .code; key = part (p + x .key) (x .klen) image } = ap labelOf (frame-says f image end shut p x nx) in
-        let seen : labels (w .past ++ (r ∷ [])) ≡ labels (w .past) ++ (record { code = x .code; key = part (p + x .key) (x .klen) image } ∷ [])
-        = labels-snoc (w .past) r ∙ ap (λ (a : Label). labels (w .past) ++ (a ∷ [])) says in
+        let seen : labelsOf (w .past ++ (r ∷ [])) ≡ labelsOf (w .past) ++ (record { code = x .code; key = part (p + x .key) (x .klen) image } ∷ [])
+        = labels-snoc (w .past) r ∙ ap (λ (a : Label). labelsOf (w .past) ++ (a ∷ [])) says in
         record {
           past = w .past ++ (r ∷ []);
           passed = passed-snoc f image end false shut start p (w .past) x (w .passed) nx;
           isMarked = rw (codes-snoc (w .past) r) (one-marked (codesOf (w .past)) marks (x .code) lt (w .isMarked));
-          isKnown = rw seen (one-known (labels (w .past)) words (record { code = x .code; key = part (p + x .key) (x .klen) image }) (w .isKnown));
+          isKnown = rw seen (one-known (labelsOf (w .past)) words (record { code = x .code; key = part (p + x .key) (x .klen) image }) (w .isKnown));
           left = w .left ∙ ap (endingFrom f e (w .past) n p) (walk-takes f image end shut p x nx) ∙ from-fine f e (w .past) n p r rest (sym q);
           bound = i .2;
           few = omega arith;

@@ -16,14 +16,13 @@ use Rattle.layout.specs.Bytes.{if, sameBytes, part}
 use Rattle.layout.specs.Shape.{next}
 use Rattle.layout.specs.Vpd.{vpd}
 use Rattle.layout.specs.Editions.{shape}
-use Rattle.layout.specs.Walk.{Raw, Content, content, labelOf}
+use Rattle.layout.specs.Walk.{Raw, Content, content, labelOf, labelsOf}
 use Rattle.layout.specs.Read.{seenBefore, codesOf}
 use Rattle.laws.specs.Marked.{marked}
-use Rattle.laws.specs.Passes.{labels}
 use Rattle.laws.proofs.Frames.{rawOf, framed-in}
 use Rattle.laws.proofs.Marks.{Marks}
 use Rattle.laws.proofs.Seen as seen
-use Rattle.laws.proofs.Seen.{labelCodes, AlwaysTwice}
+use Rattle.laws.proofs.Seen.{AlwaysTwice, label-codes}
 use Rattle.laws.proofs.Formats.{laws}
 use Rattle.keys.proofs.Seen.{keySeen, key-cons}
 use Rattle.accept.specs.Passes.{Passed}
@@ -31,15 +30,10 @@ use Rattle.accept.proofs.Endings.{frame-says}
 
 -- ---- by code
 
-label-codes : (rs : List Raw) → codesOf rs ≡ labelCodes (labels rs)
-unfolding content
-label-codes [] = refl
-label-codes (r ∷ rs) = ap (λ (l : List ℕ). r .frame .code ∷ l) (label-codes rs)
-
 -- a marked code is one that was seen
 pub marked-seen : (f : Format) (c : ℕ) (key : List ℕ) (rs : List Raw) (marks : List ℕ) → AlwaysTwice f c → c < 256 → Marks (codesOf rs) marks →
-    marked marks c ≡ seenBefore (shape f) (labels rs) (record { code = c; key = key })
-marked-seen f c key rs marks t lt m = seen.marked-seen f c key (labels rs) marks t lt (rw (label-codes rs) at m)
+    marked marks c ≡ seenBefore (shape f) (labelsOf rs) (record { code = c; key = key })
+marked-seen f c key rs marks t lt m = seen.marked-seen f c key (labelsOf rs) marks t lt (rw (label-codes rs) at m)
 
 -- ---- by key
 
@@ -53,7 +47,7 @@ module _ (image : List ℕ) (start end p : ℕ) (key : List ℕ) where
   pub record Left (past : List Raw) (shut : Bool) (q : ℕ) : Type 0 where
     pub todo : List Raw
     pub passed : Passed Vpd image end false q todo shut p
-    pub same : keySeen (labels past) key ≡ keySeen (labels todo) key
+    pub same : keySeen (labelsOf past) key ≡ keySeen (labelsOf todo) key
 
   abbrev pub Looking : ℕ → Type 0
   Looking q = (past : List Raw) (shut : Bool) → Passed Vpd image end false start past shut p → Left past shut q
@@ -63,12 +57,12 @@ module _ (image : List ℕ) (start end p : ℕ) (key : List ℕ) where
 
   module _ (q : ℕ) (w : Looking q) (past : List Raw) (shut : Bool) (h : Passed Vpd image end false start past shut p) where
     -- the place is reached
-    pub look-over : p ≤ q → false ≡ keySeen (labels past) key
+    pub look-over : p ≤ q → false ≡ keySeen (labelsOf past) key
     unfolding seenBefore
     look-over le = go (w past shut h .todo) (w past shut h .passed) (w past shut h .same)
       where
-        go : (todo : List Raw) → Passed Vpd image end false q todo shut p → keySeen (labels past) key ≡ keySeen (labels todo) key →
-            false ≡ keySeen (labels past) key
+        go : (todo : List Raw) → Passed Vpd image end false q todo shut p → keySeen (labelsOf past) key ≡ keySeen (labelsOf todo) key →
+            false ≡ keySeen (labelsOf past) key
         go [] g s = sym s
         go (r ∷ rs) g s =
             let i = framed-in (laws Vpd) false (part q (end - q) image) (r .frame) (g .0) in
@@ -103,14 +97,14 @@ module _ (image : List ℕ) (start end p : ℕ) (key : List ℕ) where
 
       -- it is looked at
       looked : (b : Bool) → eqb 1 (f .code) && sameBytes key (part (q + f .key) (f .klen) image) ≡ b → (o : Heads (w past shut h .todo)) →
-          keySeen (labels past) key ≡ if b (λ _. true) (λ _. keySeen (labels (o .rest)) key)
+          keySeen (labelsOf past) key ≡ if b (λ _. true) (λ _. keySeen (labelsOf (o .rest)) key)
       looked b t o =
           let s : List ℕ = part q (end - q) image in
           let test : eqb 1 (content (rawOf f s) .code) && sameBytes key (content (rawOf f s) .key) ≡ b = ap (λ (c : Content). eqb 1 (c .code) && sameBytes key (c .key)) (frame-says Vpd image end false q f e) ∙ t in
-          w past shut h .same ∙ ap (λ (l : List Raw). keySeen (labels l) key) (o .is) ∙ key-cons (labelOf (content (rawOf f s))) (labels (o .rest)) key ∙ rw test
+          w past shut h .same ∙ ap (λ (l : List Raw). keySeen (labelsOf l) key) (o .is) ∙ key-cons (labelOf (content (rawOf f s))) (labelsOf (o .rest)) key ∙ rw test
 
       -- the key is there
-      pub look-hit : eqb 1 (f .code) && sameBytes key (part (q + f .key) (f .klen) image) ≡ true → true ≡ keySeen (labels past) key
+      pub look-hit : eqb 1 (f .code) && sameBytes key (part (q + f .key) (f .klen) image) ≡ true → true ≡ keySeen (labelsOf past) key
       look-hit t = sym (looked true t (heads (w past shut h .todo) (w past shut h .passed)))
 
       -- it is not, and the loop goes on

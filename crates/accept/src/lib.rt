@@ -7,9 +7,9 @@ ghost use lib.ListN.{length};
 ghost use Rattle.layout.specs.Bytes.{part};
 ghost use Rattle.layout.specs.Shape.{Label};
 ghost use Rattle.layout.specs.Editions.{shape};
-ghost use Rattle.layout.specs.Walk.{Raw, walk};
+ghost use Rattle.layout.specs.Walk.{Raw, walk, labelsOf};
 ghost use Rattle.layout.specs.Read.{seenBefore, codesOf, fault, readWalked};
-ghost use Rattle.laws.specs.Passes.{walked, labels};
+ghost use Rattle.laws.specs.Passes.{walked};
 ghost use Rattle.laws.proofs.Marks.{Marks};
 ghost use Rattle.keys.proofs.Seen.{keySeen};
 ghost use Rattle.accept.specs.Passes.{Passed, walkEnding, endingOf};
@@ -85,7 +85,7 @@ fn walk_on(
 // Whether an entry before p has code 01h and this key.
 fn seen_key(image: &[u8], start: usize, end: usize, p: usize, key: &[u8]) -> bool
     requires { ⌜ p ≤ end ⌝ }
-    ensures { λ r. ⌜ ((past : List Raw) (shut : Bool) → Passed Format.Vpd (now (image .entry)) end false start past shut p → r ≡ keySeen (labels past) (now (key .entry))) ⌝ }
+    ensures { λ r. ⌜ ((past : List Raw) (shut : Bool) → Passed Format.Vpd (now (image .entry)) end false start past shut p → r ≡ keySeen (labelsOf past) (now (key .entry))) ⌝ }
 {
     let mut q = start;
     while q < p {
@@ -122,7 +122,7 @@ fn is_seen(
     seen: &[u8; 256],
 ) -> bool
     requires { ⌜ (p ≤ end) × (code < 256) ⌝ }
-    ensures { λ r. ⌜ ((past : List Raw) (shut : Bool) → Passed format (now (image .entry)) end false start past shut p → Marks (codesOf past) (now (seen .entry)) → (known ≡ false → keySeen (labels past) (now (key .entry)) ≡ false) → r ≡ seenBefore (shape format) (labels past) (record { code = code; key = now (key .entry) })) ⌝ }
+    ensures { λ r. ⌜ ((past : List Raw) (shut : Bool) → Passed format (now (image .entry)) end false start past shut p → Marks (codesOf past) (now (seen .entry)) → (known ≡ false → keySeen (labelsOf past) (now (key .entry)) ≡ false) → r ≡ seenBefore (shape format) (labelsOf past) (record { code = code; key = now (key .entry) })) ⌝ }
 {
     let at = code as usize;
     match format {

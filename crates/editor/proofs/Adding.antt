@@ -14,11 +14,11 @@ use Rattle.layout.specs.declared.Next.the-variants.{Framed, Ended, Broken}
 use Rattle.layout.specs.Bytes.{if, part, refusal}
 use Rattle.layout.specs.Shape.{Shape, Label, next}
 use Rattle.layout.specs.Editions.{shape, names}
-use Rattle.layout.specs.Walk.{Raw, Content, content, labelOf, flat}
+use Rattle.layout.specs.Walk.{Raw, Content, content, labelOf, labelsOf, flat}
 use Rattle.layout.specs.Read.{limit, same, seenBefore}
 use Rattle.layout.specs.Write.{refuse, put, imageOf, partsInside, fieldContent, writerRule, entryBytes}
 use Rattle.layout.specs.Change.{laid, allowed, denied, changeAllowed}
-use Rattle.layout.specs.Add.{labelsOf, mayAdd, addedEntries, addition, addField}
+use Rattle.layout.specs.Add.{mayAdd, addedEntries, addition, addField}
 use Rattle.laws.specs.Grammar.{Grammar, grammar}
 use Rattle.laws.specs.Passes.{walked, IsDone, rawsIn}
 use Rattle.laws.proofs.Changing.{laid-flat}

@@ -18,15 +18,15 @@ use Rattle.layout.specs.Tiny.{tiny}
 use Rattle.layout.specs.Onie.{onie}
 use Rattle.layout.specs.Shape.{Shape, Label}
 use Rattle.layout.specs.Editions.{shape, names}
-use Rattle.layout.specs.Walk.{Raw, Content, content, labelOf}
+use Rattle.layout.specs.Walk.{Raw, Content, content, labelOf, labelsOf}
 use Rattle.layout.specs.Read.{limit, same, seenBefore, readerRule, complete, codesOf}
 use Rattle.layout.specs.Write.{partsInside, fieldContent, writerRule, entryBytes}
 use Rattle.layout.specs.Change.{bytesOf, laid, allowed, denied}
-use Rattle.layout.specs.Add.{labelsOf, mayAdd, addedEntries, addition}
+use Rattle.layout.specs.Add.{mayAdd, addedEntries, addition}
 use Rattle.laws.specs.Grammar.{Grammar, grammar, Each, none, also, Lawful, noMore, andThen}
 use Rattle.laws.proofs.Choices.{false-true, refuted, either, both}
 use Rattle.laws.proofs.Lists.{each-map, each-append, each-first, each-rest}
-use Rattle.laws.proofs.Seen.{and-true, labelCodes, seen-codes}
+use Rattle.laws.proofs.Seen.{and-true, label-codes, seen-codes}
 use Rattle.laws.proofs.Frames.{IsRaw}
 use Rattle.laws.proofs.Walking.{Frames}
 use Rattle.laws.proofs.Judging.{unseen}
@@ -227,11 +227,6 @@ required-twice Vpd a b h = false-true h
 required-twice Tiny a b h = refl
 required-twice Onie a b h = false-true h
 
-label-codes : (rs : List Raw) → labelCodes (labelsOf rs) ≡ codesOf rs
-unfolding content
-label-codes [] = refl
-label-codes (r ∷ rs) = ap (λ (x : List ℕ). r .frame .code ∷ x) (label-codes rs)
-
 -- a required code is there where all are
 complete-one : (qs codes : List ℕ) (q : ℕ) → complete qs codes ≡ true → oneOf qs q ≡ true → oneOf codes q ≡ true
 unfolding complete oneOf
@@ -248,7 +243,7 @@ pub new-spare : (f : Format) (rs : List Raw) (a : Label) → complete (shape f .
 new-spare f rs a cm new =
     refuted (oneOf (shape f .required) (a .code))
     (λ h.
-    let seen = seen-codes (shape f) a (labelsOf rs) (λ b. required-twice f a b h) ∙ ap (λ (x : List ℕ). oneOf x (a .code)) (label-codes rs) in
+    let seen = seen-codes (shape f) a (labelsOf rs) (λ b. required-twice f a b h) ∙ ap (λ (x : List ℕ). oneOf x (a .code)) (sym (label-codes rs)) in
     false-true (sym new ∙ seen ∙ complete-one (shape f .required) (codesOf rs) (a .code) cm h))
 
 -- ---- all that is left

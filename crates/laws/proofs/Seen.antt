@@ -15,7 +15,8 @@ use Rattle.layout.specs.Vpd.{vpd, vpdTwice}
 use Rattle.layout.specs.Tiny.{tiny}
 use Rattle.layout.specs.Onie.{onie}
 use Rattle.layout.specs.Editions.{shape}
-use Rattle.layout.specs.Read.{seenBefore}
+use Rattle.layout.specs.Walk.{Raw, content, labelsOf}
+use Rattle.layout.specs.Read.{seenBefore, codesOf}
 use Rattle.laws.specs.Marked.{marked}
 use Rattle.laws.proofs.Marks.{Marks}
 
@@ -30,6 +31,11 @@ and-false false = refl
 abbrev pub labelCodes : List Label → List ℕ
 labelCodes [] = []
 labelCodes (b ∷ bs) = b .code ∷ labelCodes bs
+
+pub label-codes : (rs : List Raw) → codesOf rs ≡ labelCodes (labelsOf rs)
+unfolding content
+label-codes [] = refl
+label-codes (r ∷ rs) = ap (λ (l : List ℕ). r .frame .code ∷ l) (label-codes rs)
 
 -- where two entries of one code always come twice, an entry is seen exactly where its code is among those before it
 pub seen-codes : (S : Shape) (a : Label) (seen : List Label) → ((b : Label) → S .twice a b ≡ true) → seenBefore S seen a ≡ oneOf (labelCodes seen) (a .code)

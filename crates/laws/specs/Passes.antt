@@ -1,13 +1,12 @@
 -- The walk that a pass over an image goes by, and the entries on its way.
 -- Assumes nothing.
 use Prim.Native.Nat.{ℕ, _-_}
-use mathlib.Core.List.{List, [], map}
+use mathlib.Core.List.{List, []}
 use mathlib.Core.Bool.{false}
 use Rattle.layout.specs.declared.Format.{Format}
 use Rattle.layout.specs.Bytes.{part}
-use Rattle.layout.specs.Shape.{Label}
 use Rattle.layout.specs.Editions.{shape}
-use Rattle.layout.specs.Walk.{Raw, content, labelOf, Walked, done, stop, walk}
+use Rattle.layout.specs.Walk.{Raw, Walked, done, stop, walk}
 
 -- the walk over the room from start to end
 abbrev pub walked : Format → List ℕ → ℕ → ℕ → Walked
@@ -21,6 +20,3 @@ IsDone (stop k p) = ⊥
 abbrev pub rawsIn : Walked → List Raw
 rawsIn (done rs p) = rs
 rawsIn (stop k p) = []
-
-abbrev pub labels : List Raw → List Label
-labels rs = map (λ r. labelOf (content r)) rs

@@ -1,18 +1,15 @@
 -- Adding an entry, into a second buffer (02, "Add and remove fields").
 -- Assumes nothing.
 use Prim.Native.Nat.{ℕ}
-use mathlib.Core.List.{List, [], _∷_, map}
+use mathlib.Core.List.{List, [], _∷_}
 use Rattle.layout.specs.declared.Field.{Field}
 use Rattle.layout.specs.Bytes.{if, refusal}
-use Rattle.layout.specs.Shape.{Shape, Label}
+use Rattle.layout.specs.Shape.{Shape}
 use Rattle.layout.specs.Editions.{names}
-use Rattle.layout.specs.Walk.{Raw, Content, content, labelOf}
+use Rattle.layout.specs.Walk.{Raw, Content, labelOf, labelsOf}
 use Rattle.layout.specs.Read.{seenBefore}
 use Rattle.layout.specs.Write.{partsInside, fieldContent, writerRule, entryBytes, Outcome}
 use Rattle.layout.specs.Change.{Allowed, allowed, denied, bytesOf, Change, changeImage}
-
-abbrev pub labelsOf : List Raw → List Label
-labelsOf rs = map (λ r. labelOf (content r)) rs
 
 -- of the first field and the entries: 13, 14, 7, 8, each at 0. No field is 13
 unfoldable pub mayAdd : Shape → ℕ → List Raw → List Field → List ℕ → Allowed

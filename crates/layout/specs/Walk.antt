@@ -1,7 +1,7 @@
 -- The walk over frames (01, "Order"), for any format.
 -- Assumes nothing.
 use Prim.Native.Nat.{ℕ, zero, suc, _+_}
-use mathlib.Core.List.{List, [], _∷_, _++_}
+use mathlib.Core.List.{List, [], _∷_, _++_, map}
 use mathlib.Core.Bool.{Bool}
 use lib.ListN.{length, take, drop}
 use Rattle.layout.specs.declared.Frame.{Frame}
@@ -31,6 +31,9 @@ content r =
 
 abbrev pub labelOf : Content → Label
 labelOf c = record { code = c .code; key = c .key }
+
+abbrev pub labelsOf : List Raw → List Label
+labelsOf rs = map (λ r. labelOf (content r)) rs
 
 -- the bytes of entries, one after another
 abbrev pub flat : List Raw → List ℕ

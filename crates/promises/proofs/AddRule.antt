@@ -13,12 +13,12 @@ use Rattle.layout.specs.declared.Field.{Field}
 use Rattle.layout.specs.Bytes.{if, refusal}
 use Rattle.layout.specs.Shape.{Shape, Label}
 use Rattle.layout.specs.Editions.{shape, names}
-use Rattle.layout.specs.Walk.{Raw, Content, content, labelOf, flat}
+use Rattle.layout.specs.Walk.{Raw, Content, content, labelOf, labelsOf, flat}
 use Rattle.layout.specs.Calls.{entriesOf, toldRefusal}
 use Rattle.layout.specs.Read.{limit, same, seenBefore}
 use Rattle.layout.specs.Write.{partsInside, fieldContent, writerRule, entryBytes, put, toldMade}
 use Rattle.layout.specs.Change.{bytesOf, laid, laidOut, allowed, denied, changeAllowed}
-use Rattle.layout.specs.Add.{labelsOf, mayAdd, addedEntries, addition, addField}
+use Rattle.layout.specs.Add.{mayAdd, addedEntries, addition, addField}
 use Rattle.laws.specs.Contents.{said}
 use Rattle.laws.specs.Grammar.{Grammar, grammar, Each, none, also}
 use Rattle.laws.proofs.Choices.{false-true, either}

@@ -17,12 +17,12 @@ use Rattle.layout.specs.declared.Made.the-variants.{Wrote, Unwritten}
 use Rattle.layout.specs.Bytes.{oneOf}
 use Rattle.layout.specs.Shape.{Shape, Label, Judged, fine, faulty}
 use Rattle.layout.specs.Editions.{shape, chosen, names}
-use Rattle.layout.specs.Walk.{Raw, Content, labelOf, flat}
+use Rattle.layout.specs.Walk.{Raw, Content, labelOf, labelsOf, flat}
 use Rattle.layout.specs.Read.{limit, seenBefore, complete, Read, accepted, refused, readAs}
 use Rattle.layout.specs.Write.{partsInside, fieldContent, writerRule, fieldFault, judgeFields, contentsOf, contentCodes, entriesBytes, imageOf, Outcome, put, writeJudged, writeAs, writeChosen, writeImage}
 use Rattle.layout.specs.Change.{laidOut, Allowed, allowed, denied, Change, mayChange, changeAllowed, changeRead, changeChosen, changeImage}
 use Rattle.layout.specs.Edit.{editRule, editAsks, edit, editEntry}
-use Rattle.layout.specs.Add.{labelsOf, mayAdd, addition, addField}
+use Rattle.layout.specs.Add.{mayAdd, addition, addField}
 use Rattle.layout.specs.Remove.{removeAsks, removal, removeEntry}
 use Rattle.laws.specs.Grammar.{grammar}
 use Rattle.laws.proofs.Choices.{either, both, neither}

@@ -4,8 +4,8 @@ use mathlib.Core.Path.{sym}
 use borrow.Author.Needs.{needs}
 use borrow.Author.Tests.{not-true}
 use denote.Ref.{now}
+use Rattle.layout.specs.Walk.{labelsOf}
 use Rattle.laws.proofs.Seen.{AlwaysTwice, fboss-always, tiny-always, vpd-always, onie-always, vendor-unseen}
-use Rattle.laws.specs.Passes.{labels}
 use Rattle.accept.proofs.Seen.{marked-seen}
 use Rattle.accept.proofs.is_seen.Statement.{statement}
 use Rattle.accept.proofs.is_seen.Tie as tie
@@ -42,7 +42,7 @@ enum-told-4 : tie.Need-enum-told-4
 enum-told-4 c = search needs
 
 returns-3 : tie.Need-returns-3
-returns-3 c past shut passed marks unseen = rw (c .before .enum-told4 .given .1, c .if3 .taken) (sym (vendor-unseen _ (labels past)))
+returns-3 c past shut passed marks unseen = rw (c .before .enum-told4 .given .1, c .if3 .taken) (sym (vendor-unseen _ (labelsOf past)))
 
 element-copy-out-result-4 : tie.Need-element-copy-out-result-4
 element-copy-out-result-4 c = search needs
