@@ -18,7 +18,7 @@ use Rattle.layout.specs.Read.{seenBefore, readerRule, fault, judge, complete, c
 use Rattle.laws.specs.Marked.{allMarked}
 use Rattle.laws.specs.Passes.{walked}
 use Rattle.laws.proofs.Frames.{rawOf}
-use Rattle.laws.proofs.Lists.{joined-append}
+use Rattle.layout.proofs.Lists.{joined-append}
 use Rattle.laws.proofs.Marks.{Marks, none-marked, one-marked, marked-complete}
 use Rattle.laws.proofs.Names.{required-bytes}
 use Rattle.laws.proofs.Walking.{walk-end, walk-bad}

@@ -32,8 +32,8 @@ use Rattle.records.specs.Exports.{recorded, entryCall, listCall, walkFormat, wa
 use Rattle.records.proofs.Words.{length-words}
 use Rattle.fields.proofs.Lists.{items-none, items-more}
 use Rattle.laws.specs.Contents.{said, replaced, without}
-use Rattle.laws.proofs.Lists.{length-map}
-use Rattle.laws.specs.Grammar.{Each, none, also as andAlso}
+use Rattle.layout.proofs.Lists.{length-map}
+use Rattle.layout.specs.Each.{Each, none, also as andAlso}
 use Rattle.promises.specs.Words.{Serves, Counts, Item, here, there, tellsCheck, Changes, edits, adds, removes}
 use Rattle.promises.specs.Kinds.{Marked}
 use Rattle.promises.specs.RoundTrip.{fieldSays}

@@ -15,9 +15,9 @@ use Rattle.layout.specs.Read.{accepted}
 use Rattle.layout.specs.Calls.{Told, entriesIn}
 use Rattle.layout.specs.Write.{word}
 use Rattle.laws.specs.Contents.{said}
-use Rattle.laws.specs.Grammar.{Each, also}
+use Rattle.layout.specs.Each.{Each, also}
 use Rattle.laws.proofs.Choices.{either}
-use Rattle.laws.proofs.Lists.{length-map}
+use Rattle.layout.proofs.Lists.{length-map}
 use Rattle.laws.proofs.Passes.{part-byte}
 use Rattle.records.specs.Packed.{packed}
 use Rattle.records.specs.Words.{formerWords, framedWords, recordWords}

@@ -17,7 +17,7 @@ use Rattle.layout.specs.Tiny.{tiny, tinyReading, batch, passed}
 use Rattle.layout.specs.Onie.{onie, onieReading}
 use Rattle.layout.specs.Editions.{shape}
 use Rattle.layout.specs.Calls.{toldReading}
-use Rattle.laws.specs.Grammar.{Each, none, also}
+use Rattle.layout.specs.Each.{Each, none, also}
 use Rattle.laws.proofs.Choices.{either}
 use Rattle.laws.proofs.Passes.{part-most}
 

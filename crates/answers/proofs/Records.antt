@@ -22,10 +22,11 @@ use Rattle.layout.specs.Walk.{Raw, content, flat}
 use Rattle.layout.specs.Read.{limit, Read, accepted, refused, readImage}
 use Rattle.layout.specs.Calls.{toldReading, entryOf, entriesOf, entriesBy, entriesIn}
 use Rattle.layout.specs.Write.{word}
-use Rattle.laws.specs.Grammar.{grammar, Each, none, also}
+use Rattle.layout.specs.Each.{Each, none, also}
+use Rattle.laws.specs.Grammar.{grammar}
 use Rattle.laws.proofs.Choices.{either}
 use Rattle.laws.proofs.Formats.{laws}
-use Rattle.laws.proofs.Lists.{each-left, each-right, each-append}
+use Rattle.layout.proofs.Lists.{each-left, each-right, each-append}
 use Rattle.laws.proofs.Passes.{raw-code}
 use Rattle.laws.proofs.Walking.{Frames}
 use Rattle.laws.proofs.Calls.{accepted-reading}

@@ -13,7 +13,7 @@ use borrow.Author.Tests.{lt-ltb, le-ltb, lt-leb, le-leb}
 use Rattle.layout.specs.Bytes.{if, all, oneOf, partAt, refusal}
 use Rattle.layout.specs.Calls.{toldRefusal}
 use Rattle.layout.specs.Write.{word}
-use Rattle.laws.specs.Grammar.{Each, none}
+use Rattle.layout.specs.Each.{Each, none}
 use Rattle.blocks.specs.declared.Offsets.{Offsets}
 use Rattle.blocks.specs.declared.Block.{Block}
 use Rattle.blocks.specs.declared.Vended.{Vended}

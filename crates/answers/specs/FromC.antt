@@ -14,7 +14,8 @@ use Rattle.layout.specs.Walk.{Content}
 use Rattle.layout.specs.Calls.{toldReading, toldRefusal}
 use Rattle.layout.specs.Write.{word, fieldsIn}
 use Rattle.laws.specs.Contents.{replaced, without}
-use Rattle.laws.specs.Grammar.{Each, Published}
+use Rattle.layout.specs.Each.{Each}
+use Rattle.laws.specs.Grammar.{Published}
 use Rattle.records.specs.Packed.{packed}
 use Rattle.records.specs.Words.{wordsBytes}
 use Rattle.records.specs.Exports.{checkCall, valueCall, stringCall, entryCall, listCall, walkFormat, walkEdition, walkEntry, stepCall, writeCall, editCall, addCall, removeCall, Given}

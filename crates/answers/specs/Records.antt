@@ -7,7 +7,7 @@ use lib.ListN.{length, getD, take, replicate}
 use Rattle.layout.specs.declared.Entry.{Entry}
 use Rattle.layout.specs.Calls.{toldReading, entriesIn}
 use Rattle.layout.specs.Write.{word}
-use Rattle.laws.specs.Grammar.{Each}
+use Rattle.layout.specs.Each.{Each}
 use Rattle.records.specs.Words.{wordsBytes, recordWords, recordBytes}
 
 -- word k of an edition's record is at byte k × 4, low byte first

@@ -9,7 +9,7 @@ use lib.Dec.{ltb}
 use Rattle.layout.specs.Bytes.{if, refusal}
 use Rattle.layout.specs.Calls.{toldRefusal}
 use Rattle.layout.specs.Write.{word}
-use Rattle.laws.specs.Grammar.{Each}
+use Rattle.layout.specs.Each.{Each}
 use Rattle.blocks.specs.declared.Offsets.{Offsets}
 use Rattle.blocks.specs.declared.Block.{Block}
 use Rattle.blocks.specs.declared.Vended.the-variants.{Tells}

@@ -13,7 +13,7 @@ use Rattle.layout.specs.Editions.{chosen}
 use Rattle.layout.specs.Walk.{Content, content}
 use Rattle.layout.specs.Read.{limit, Read, accepted, refused, readImage}
 use Rattle.layout.specs.Calls.{Told, told, toldRefusal}
-use Rattle.layout.specs.Write.{word, itemsIn, Outcome, refuse}
+use Rattle.layout.specs.Write.{word, itemsIn, Outcome, refuse, putBytes}
 use Rattle.blocks.specs.declared.Offsets.{Offsets}
 use Rattle.blocks.specs.declared.Said.{Said}
 use Rattle.blocks.specs.declared.Said.the-variants.{Says, Wrong}
@@ -79,16 +79,9 @@ toldVended (Unread r) = toldRefusal r
 unfoldable pub piecesIn : List ℕ → List ℕ
 piecesIn s = itemsIn 4 (word 0) s
 
--- the values go to the output's front, and the bytes past them stay; 12 where they do not fit
-abbrev pub putValues : List ℕ → List ℕ → Outcome
-putValues values out =
-    if (leb (length values) (length out))
-    (λ _. record { answer = Wrote (length values); memory = values ++ drop (length values) out })
-    (λ _. refuse (refusal 12 0) out)
-
 abbrev pub putAsked : Chosen → List ℕ → Offsets → List ℕ → List ℕ → Outcome
 putAsked (Known g) serial o pieces out =
-    if (writable serial pieces) (λ _. putValues (cutInto pieces (payloadOf serial o)) out) (λ _. refuse (refusal 18 0) out)
+    if (writable serial pieces) (λ _. putBytes (cutInto pieces (payloadOf serial o)) out) (λ _. refuse (refusal 18 0) out)
 putAsked (Unknown n) serial o pieces out = refuse (refusal n 0) out
 
 -- what both ask, of the output; then 18, 12

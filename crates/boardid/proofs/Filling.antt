@@ -20,7 +20,7 @@ use Rattle.laws.specs.Grammar.{grammar}
 use Rattle.laws.specs.Passes.{walked, IsDone, rawsIn}
 use Rattle.laws.proofs.Formats.{laws}
 use Rattle.laws.proofs.Frames.{rawOf}
-use Rattle.laws.proofs.Lists.{joined-append}
+use Rattle.layout.proofs.Lists.{joined-append}
 use Rattle.laws.proofs.Records.{entries-none, entries-more, entries-count}
 use Rattle.laws.proofs.Passes.{Passing, pass-first, pass-on, pass-ends, pass-unbroken}
 use Rattle.output.specs.Placing.{over, copied}

@@ -27,7 +27,7 @@ use Rattle.laws.specs.Grammar.{grammar}
 use Rattle.laws.proofs.Frames.{raw-size, raw-at}
 use Rattle.laws.proofs.Calls.{change-read}
 use Rattle.laws.proofs.Changing.{laid-flat}
-use Rattle.laws.proofs.Lists.{joined-append}
+use Rattle.layout.proofs.Lists.{joined-append}
 use Rattle.frames.specs.declared.Spot.the-variants.{At, Nowhere}
 use Rattle.frames.specs.Spots.{spotAt}
 use Rattle.frames.proofs.Spots.{Sized, Spotted, OnSpot, spot-walked}

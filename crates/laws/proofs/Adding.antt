@@ -23,9 +23,10 @@ use Rattle.layout.specs.Read.{limit, same, seenBefore, readerRule, complete, co
 use Rattle.layout.specs.Write.{partsInside, fieldContent, writerRule, entryBytes}
 use Rattle.layout.specs.Change.{bytesOf, laid, allowed, denied}
 use Rattle.layout.specs.Add.{mayAdd, addedEntries, addition}
-use Rattle.laws.specs.Grammar.{Grammar, grammar, Each, none, also, Lawful, noMore, andThen}
+use Rattle.layout.specs.Each.{Each, none, also}
+use Rattle.laws.specs.Grammar.{Grammar, grammar, Lawful, noMore, andThen}
 use Rattle.laws.proofs.Choices.{false-true, refuted, either, both}
-use Rattle.laws.proofs.Lists.{each-map, each-append, each-first, each-rest}
+use Rattle.layout.proofs.Lists.{each-map, each-append, each-first, each-rest}
 use Rattle.laws.proofs.Seen.{and-true, label-codes, seen-codes}
 use Rattle.laws.proofs.Frames.{IsRaw}
 use Rattle.laws.proofs.Walking.{Frames}

@@ -13,7 +13,7 @@ use Rattle.layout.specs.Walk.{Raw, Content, content, flat}
 use Rattle.layout.specs.Read.{complete, codesOf}
 use Rattle.layout.specs.Change.{bytesOf, laid, Allowed, allowed, denied, mayChange, inPlace}
 use Rattle.laws.specs.Grammar.{Grammar, Lawful}
-use Rattle.laws.proofs.Lists.{joined-append}
+use Rattle.layout.proofs.Lists.{joined-append}
 use Rattle.laws.proofs.Walking.{Frames}
 
 -- ---- what is laid out

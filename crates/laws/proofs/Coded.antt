@@ -18,7 +18,7 @@ use Rattle.layout.specs.Write.{imageOf}
 use Rattle.laws.specs.Grammar.{codedGrammar}
 use Rattle.laws.proofs.Format.{Laws, Begins, Holds, Wholly}
 use Rattle.laws.proofs.Choices.{false-true, either, OnHeaded}
-use Rattle.laws.proofs.Lists.{byte-at}
+use Rattle.layout.proofs.Lists.{byte-at}
 use Rattle.laws.proofs.OneByte.{bare-key, bare-begins, byte-goes, byte-read}
 
 module _ (takes : ℕ → Type 0) (end size : ℕ) where

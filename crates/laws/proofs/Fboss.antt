@@ -16,7 +16,7 @@ use Rattle.layout.specs.Editions.{names, sinceIn}
 use Rattle.laws.specs.Grammar.{fbossGrammar}
 use Rattle.laws.proofs.Format.{Laws, Holds}
 use Rattle.laws.proofs.Choices.{either, both, OnOpened}
-use Rattle.laws.proofs.Lists.{byte-at}
+use Rattle.layout.proofs.Lists.{byte-at}
 use Rattle.laws.proofs.Coded.{Rooms, closing-ends, coded-laws}
 
 -- what a room tells of the image: it begins with the header, and the room is all that follows

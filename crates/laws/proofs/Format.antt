@@ -14,7 +14,8 @@ use Rattle.layout.specs.Shape.{Shape, fine}
 use Rattle.layout.specs.Editions.{names}
 use Rattle.layout.specs.Read.{limit}
 use Rattle.layout.specs.Write.{imageOf}
-use Rattle.laws.specs.Grammar.{Grammar, Each}
+use Rattle.layout.specs.Each.{Each}
+use Rattle.laws.specs.Grammar.{Grammar}
 
 -- the head that bytes of an opening are read as: the key is what they end with
 abbrev pub headFrom : List ℕ → ℕ → List ℕ → Head

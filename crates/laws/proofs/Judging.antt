@@ -12,8 +12,9 @@ use Rattle.layout.specs.Editions.{Since, from, never, since, reached, names}
 use Rattle.layout.specs.Walk.{Raw, Content, content, labelOf}
 use Rattle.layout.specs.Read.{same, seenBefore, readerRule, fault, orElse, judge}
 use Rattle.laws.specs.Contents.{valued, replaced}
-use Rattle.laws.specs.Grammar.{Ruled, New, Each, none, also, Lawful, noMore, andThen}
-use Rattle.laws.proofs.Lists.{each-map, each-every}
+use Rattle.layout.specs.Each.{Each, none, also}
+use Rattle.laws.specs.Grammar.{Ruled, New, Lawful, noMore, andThen}
+use Rattle.layout.proofs.Lists.{each-map, each-every}
 use Rattle.laws.proofs.Choices.{false-true, both}
 
 -- not seen before: no label seen is the same

@@ -12,7 +12,8 @@ use lib.Dec.{ltb}
 use borrow.Author.Tests.{ltb-true, ltb-false, lt-ltb, le-ltb}
 use Rattle.layout.specs.declared.Length.the-variants.{Reads, Fails}
 use Rattle.layout.specs.Vpd.{groups, shortest}
-use Rattle.laws.specs.Grammar.{LengthBytes, lastByte, moreByte, Each, none, also}
+use Rattle.layout.specs.Each.{Each, none, also}
+use Rattle.laws.specs.Grammar.{LengthBytes, lastByte, moreByte}
 
 -- s has, from j on, at most k length bytes that say v, where the bytes before them said `far`; and they end at i
 pub record Said (k far j : ℕ) (s : List ℕ) (v i : ℕ) : Type 0 where

@@ -13,7 +13,6 @@ pub mod Frames
 pub mod Images
 pub mod Judging
 pub mod LengthBytes
-pub mod Lists
 pub mod Marks
 pub mod Names
 pub mod OneByte

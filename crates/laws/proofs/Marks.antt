@@ -10,7 +10,7 @@ use lib.Dec.{eqb}
 use borrow.Author.Tests.{eqb-true, eqb-false}
 use Rattle.layout.specs.Bytes.{if, oneOf}
 use Rattle.layout.specs.Read.{complete}
-use Rattle.laws.specs.Grammar.{Each, none, also}
+use Rattle.layout.specs.Each.{Each, none, also}
 use Rattle.laws.specs.Marked.{marked, allMarked}
 
 -- just the codes of the list are marked

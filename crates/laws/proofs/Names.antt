@@ -16,7 +16,7 @@ use Rattle.layout.specs.Vpd.{vpd}
 use Rattle.layout.specs.Tiny.{tiny}
 use Rattle.layout.specs.Onie.{onie}
 use Rattle.layout.specs.Editions.{shape, from, sinceIn, reached, names}
-use Rattle.laws.specs.Grammar.{Each, none, also}
+use Rattle.layout.specs.Each.{Each, none, also}
 use Rattle.laws.proofs.Choices.{false-true, both}
 
 named-below : (ns : List Naming) (e c : ℕ) → Each (λ n. n .high < 256) ns → reached (sinceIn ns c) e ≡ true → c < 256

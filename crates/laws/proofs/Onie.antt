@@ -17,7 +17,7 @@ use Rattle.layout.specs.Write.{imageOf}
 use Rattle.laws.specs.Grammar.{onieGrammar}
 use Rattle.laws.proofs.Format.{Laws, Holds}
 use Rattle.laws.proofs.Choices.{either, both, OnOpened}
-use Rattle.laws.proofs.Lists.{byte-at}
+use Rattle.layout.proofs.Lists.{byte-at}
 use Rattle.laws.proofs.Images.{same-true}
 use Rattle.laws.proofs.Coded.{Rooms, closing-ends, coded-laws}
 

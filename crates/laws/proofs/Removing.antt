@@ -14,9 +14,10 @@ use Rattle.layout.specs.Read.{complete, codesOf}
 use Rattle.layout.specs.Change.{allowed, denied}
 use Rattle.layout.specs.Remove.{removeAsks, removal}
 use Rattle.laws.specs.Contents.{without}
-use Rattle.laws.specs.Grammar.{Grammar, New, Each, Lawful, noMore, andThen}
+use Rattle.layout.specs.Each.{Each}
+use Rattle.laws.specs.Grammar.{Grammar, New, Lawful, noMore, andThen}
 use Rattle.laws.proofs.Choices.{false-true, both}
-use Rattle.laws.proofs.Lists.{length-map, each-left, each-right, each-append}
+use Rattle.layout.proofs.Lists.{length-map, each-left, each-right, each-append}
 use Rattle.laws.proofs.Walking.{Frames}
 use Rattle.laws.proofs.Changing.{rawsInPlace, in-place-bytes, NamedAt, named-index, never-denied, may-at, at-may, Leaves}
 

@@ -20,7 +20,7 @@ use Rattle.layout.specs.Editions.{names, sinceIn}
 use Rattle.laws.specs.Grammar.{TinySays, tinyGrammar}
 use Rattle.laws.proofs.Format.{Laws, Begins, Goes, Holds}
 use Rattle.laws.proofs.Choices.{false-true, either, both, OnHeaded, OnLength, OnOpened}
-use Rattle.laws.proofs.Lists.{byte-at}
+use Rattle.layout.proofs.Lists.{byte-at}
 use Rattle.laws.proofs.OneByte.{bare-key, bare-begins, byte-goes, byte-read}
 
 -- what a head tells of the bytes that it stands for: they begin with an opening where an entry may follow, or there are none

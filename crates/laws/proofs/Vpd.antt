@@ -17,9 +17,10 @@ use Rattle.layout.specs.declared.Length.the-variants.{Reads, Fails}
 use Rattle.layout.specs.Bytes.{if, between, all, part}
 use Rattle.layout.specs.Editions.{names, sinceIn}
 use Rattle.layout.specs.Vpd.{vpd, vpdHead, keyedHead, groups, keyByte, vpdReaderKey, vpdWriterKey, shortest}
-use Rattle.laws.specs.Grammar.{vpdGrammar, VpdOpening, Each, also}
+use Rattle.layout.specs.Each.{Each, also}
+use Rattle.laws.specs.Grammar.{vpdGrammar, VpdOpening}
 use Rattle.laws.proofs.Format.{headFrom, Begins, Wholly, Laws}
-use Rattle.laws.proofs.Lists.{each-left}
+use Rattle.layout.proofs.Lists.{each-left}
 use Rattle.laws.proofs.LengthBytes.{Said, groups-sound, groups-complete, shortest-says, shortest-least}
 
 -- a code that opens an entry

@@ -13,11 +13,12 @@ use Rattle.layout.specs.Editions.{names}
 use Rattle.layout.specs.Walk.{Raw, Content, content, labelOf, flat}
 use Rattle.layout.specs.Read.{limit, same, seenBefore, readerRule}
 use Rattle.layout.specs.Write.{fieldKey, partsInside, fieldContent, writerRule, fieldFault, judgeFields, contentsOf, entryBytes, entriesBytes, imageOf}
-use Rattle.laws.specs.Grammar.{Grammar, Each, none, also, Lawful, noMore, andThen}
+use Rattle.layout.specs.Each.{Each, none, also}
+use Rattle.laws.specs.Grammar.{Grammar, Lawful, noMore, andThen}
 use Rattle.laws.proofs.Format.{Laws}
 use Rattle.laws.proofs.Frames.{IsRaw, frameFrom, raw-content}
 use Rattle.laws.proofs.Walking.{Frames}
-use Rattle.laws.proofs.Lists.{each-first, each-rest, each-map, each-both, each-left, each-right, each-append}
+use Rattle.layout.proofs.Lists.{each-first, each-rest, each-map, each-both, each-left, each-right, each-append}
 use Rattle.laws.proofs.Judging.{or-fine, unseen, each-unseen}
 use Rattle.laws.proofs.Choices.{false-true, both}
 use Rattle.laws.proofs.Images.{imageFrom}

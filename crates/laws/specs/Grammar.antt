@@ -11,6 +11,7 @@ use mathlib.Core.Bool.{Bool, true, false}
 use lib.ListN.{length}
 use Rattle.layout.specs.declared.Format.{Format}
 use Rattle.layout.specs.declared.Format.the-variants.{Fboss, Vpd, Tiny, Onie}
+use Rattle.layout.specs.Each.{Each}
 use Rattle.layout.specs.Shape.{Shape, Label}
 use Rattle.layout.specs.Editions.{shape, names}
 use Rattle.layout.specs.Walk.{Content, labelOf}
@@ -123,11 +124,6 @@ Ruled S e c = names S e (c .code) ≡ true → readerRule S c ≡ true
 -- a named entry is none of those before it again
 abbrev pub New : Shape → ℕ → Content → Label → Type 0
 New S e c seen = names S e (c .code) ≡ true → same S (labelOf c) seen ≡ false
-
--- what holds of each item
-pub data Each {A : Type 0} (P : A → Type 0) : List A → Type 0 where
-  none : Each P []
-  also : {x : A} {xs : List A} → P x → Each P xs → Each P (x ∷ xs)
 
 -- an entry of this code is among these
 pub data Among (code : ℕ) : List Content → Type 0 where

@@ -1,3 +1,4 @@
+pub mod Lists
 pub mod Cases
 pub mod CasesCalendar
 pub mod CasesFboss

@@ -1,4 +1,5 @@
 pub mod Bytes
+pub mod Each
 pub mod Calendar
 pub mod Years
 pub mod Shape

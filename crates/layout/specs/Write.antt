@@ -136,6 +136,13 @@ put S image out =
     (λ _. record { answer = Wrote (length image); memory = padded image (length out) })
     (λ _. refuse (refusal 12 0) out)
 
+-- the bytes go to the output's front, and those past them stay; 12 where they do not fit
+abbrev pub putBytes : List ℕ → List ℕ → Outcome
+putBytes bytes out =
+    if (leb (length bytes) (length out))
+    (λ _. record { answer = Wrote (length bytes); memory = bytes ++ drop (length bytes) out })
+    (λ _. refuse (refusal 12 0) out)
+
 -- ---- write
 
 -- after the fields: 11, then 12

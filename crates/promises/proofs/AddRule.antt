@@ -20,9 +20,10 @@ use Rattle.layout.specs.Write.{partsInside, fieldContent, writerRule, entryByte
 use Rattle.layout.specs.Change.{bytesOf, laid, laidOut, allowed, denied, changeAllowed}
 use Rattle.layout.specs.Add.{mayAdd, addedEntries, addition, addField}
 use Rattle.laws.specs.Contents.{said}
-use Rattle.laws.specs.Grammar.{Grammar, grammar, Each, none, also}
+use Rattle.layout.specs.Each.{Each, none, also}
+use Rattle.laws.specs.Grammar.{Grammar, grammar}
 use Rattle.laws.proofs.Choices.{false-true, either}
-use Rattle.laws.proofs.Lists.{each-first, each-rest, each-map}
+use Rattle.layout.proofs.Lists.{each-first, each-rest, each-map}
 use Rattle.laws.proofs.Walking.{Frames}
 use Rattle.laws.proofs.Writing.{keyless}
 use Rattle.laws.proofs.Judging.{unseen}

@@ -13,7 +13,7 @@ use Rattle.layout.specs.Walk.{content, flat}
 use Rattle.layout.specs.Change.{laid}
 use Rattle.layout.specs.Edit.{revalued, edit}
 use Rattle.laws.specs.Grammar.{grammar}
-use Rattle.laws.proofs.Lists.{length-map}
+use Rattle.layout.proofs.Lists.{length-map}
 use Rattle.laws.proofs.Editing.{Takes, may-editable, value-shorter, revalued-is}
 use Rattle.laws.proofs.Calls.{check-found}
 use Rattle.promises.specs.EditRule.{Edited, EditRule}

@@ -21,7 +21,8 @@ use Rattle.layout.specs.Walk.{Raw, content, flat}
 use Rattle.layout.specs.Read.{limit, accepted, readImage}
 use Rattle.layout.specs.Calls.{entriesOf, nth, stringIn, poolString}
 use Rattle.laws.specs.Contents.{Tiles}
-use Rattle.laws.specs.Grammar.{grammar, Each, none, also}
+use Rattle.layout.specs.Each.{Each, none, also}
+use Rattle.laws.specs.Grammar.{grammar}
 use Rattle.laws.proofs.Choices.{either}
 use Rattle.laws.proofs.Formats.{laws}
 use Rattle.laws.proofs.Frames.{raw-size}

@@ -24,9 +24,10 @@ use Rattle.layout.specs.Walk.{Raw, Content, flat}
 use Rattle.layout.specs.Add.{mayAdd, addition}
 use Rattle.layout.specs.Calls.{Told, keyPart, entryOf, entriesOf}
 use Rattle.laws.specs.Contents.{said, replaced, without}
-use Rattle.laws.specs.Grammar.{grammar, Each, none, also}
+use Rattle.layout.specs.Each.{Each, none, also}
+use Rattle.laws.specs.Grammar.{grammar}
 use Rattle.laws.proofs.Frames.{IsRaw, raw-size, part-between}
-use Rattle.laws.proofs.Lists.{length-map}
+use Rattle.layout.proofs.Lists.{length-map}
 use Rattle.laws.proofs.Walking.{Frames}
 use Rattle.laws.proofs.Records.{entry-said, records-tile, entries-count}
 use Rattle.laws.proofs.Formats.{laws}

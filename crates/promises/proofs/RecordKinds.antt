@@ -23,7 +23,8 @@ use Rattle.layout.specs.Walk.{Raw, Content, content, labelOf}
 use Rattle.layout.specs.Read.{readerRule}
 use Rattle.layout.specs.Calls.{entryOf, entriesOf}
 use Rattle.laws.specs.Contents.{said}
-use Rattle.laws.specs.Grammar.{grammar, TinySays, Ruled, Each, none, also, Lawful, andThen}
+use Rattle.layout.specs.Each.{Each, none, also}
+use Rattle.laws.specs.Grammar.{grammar, TinySays, Ruled, Lawful, andThen}
 use Rattle.laws.proofs.Frames.{IsRaw, raw-content}
 use Rattle.laws.proofs.Walking.{Frames}
 use Rattle.laws.proofs.Records.{entries-count}

@@ -10,7 +10,7 @@ use Rattle.layout.specs.Editions.{shape, names}
 use Rattle.layout.specs.Walk.{Raw, content, flat}
 use Rattle.layout.specs.Change.{bytesOf, laid, laidOut, inPlace, Change, changeImage}
 use Rattle.laws.specs.Grammar.{Grammar, grammar}
-use Rattle.laws.proofs.Lists.{joined-append}
+use Rattle.layout.proofs.Lists.{joined-append}
 use Rattle.laws.proofs.Frames.{IsRaw}
 use Rattle.laws.proofs.Walking.{Frames}
 use Rattle.laws.proofs.Formats.{laws}

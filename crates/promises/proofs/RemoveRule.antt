@@ -20,7 +20,7 @@ use Rattle.layout.specs.Change.{laid, laidOut, Allowed, allowed, denied, mayCha
 use Rattle.layout.specs.Remove.{removeAsks, removal}
 use Rattle.laws.specs.Grammar.{grammar}
 use Rattle.laws.proofs.Choices.{false-true, either}
-use Rattle.laws.proofs.Lists.{length-map}
+use Rattle.layout.proofs.Lists.{length-map}
 use Rattle.laws.proofs.Frames.{raw-size}
 use Rattle.laws.proofs.Walking.{Frames}
 use Rattle.laws.proofs.Formats.{laws}

@@ -10,7 +10,8 @@ use Rattle.layout.specs.Bytes.{if, oneOf}
 use Rattle.layout.specs.Walk.{Raw, Content, content}
 use Rattle.layout.specs.Read.{codesOf, complete}
 use Rattle.layout.specs.Write.{contentCodes}
-use Rattle.laws.specs.Grammar.{Each, none, also, Among, first, later}
+use Rattle.layout.specs.Each.{Each, none, also}
+use Rattle.laws.specs.Grammar.{Among, first, later}
 use Rattle.laws.proofs.Choices.{false-true, both}
 
 -- the codes of entries that were read are those of what they say

@@ -24,7 +24,8 @@ use Rattle.layout.specs.Walk.{Content}
 use Rattle.layout.specs.Read.{readerRule}
 use Rattle.layout.specs.Write.{writerRule}
 use Rattle.layout.specs.Edit.{editRule}
-use Rattle.laws.specs.Grammar.{grammar, EntryOf, Each, none, also, TinySays}
+use Rattle.layout.specs.Each.{Each, none, also}
+use Rattle.laws.specs.Grammar.{grammar, EntryOf, TinySays}
 use Rattle.laws.proofs.Choices.{false-true, either, both}
 use Rattle.laws.proofs.Vpd.{writer-key}
 use Rattle.laws.proofs.Years.{as-printed}

@@ -19,13 +19,14 @@ use Rattle.layout.specs.Walk.{Raw, content}
 use Rattle.layout.specs.Read.{refused, readImage}
 use Rattle.layout.specs.Calls.{entryOf, entriesOf, checkImage, noString, stringIn, poolString, stringAt}
 use Rattle.laws.specs.Contents.{said}
-use Rattle.laws.specs.Grammar.{tinyGrammar, Each, none, also}
+use Rattle.layout.specs.Each.{Each, none, also}
+use Rattle.laws.specs.Grammar.{tinyGrammar}
 use Rattle.laws.proofs.Walking.{Frames}
 use Rattle.laws.proofs.Records.{entries-count}
 use Rattle.laws.proofs.Calls.{Reading, Found, check-found}
 use Rattle.promises.specs.Words.{tiny as tinyNumber, Refuses, Item, here, there, tellsCheck, tellsString}
 use Rattle.promises.specs.Strings.{Strings, tail, string, PoolStrings, TinyStrings, StringRule}
-use Rattle.laws.proofs.Lists.{each-append}
+use Rattle.layout.proofs.Lists.{each-append}
 use Rattle.laws.proofs.Strings.{goes}
 use Rattle.promises.proofs.Accepting.{lists, records-say}
 use Rattle.promises.proofs.Telling.{one-format, chosen-serves, counts-accepted, check-refused}

@@ -14,7 +14,7 @@ use Rattle.layout.specs.Bytes.{oneOf, refusal}
 use Rattle.layout.specs.Editions.{chosen}
 use Rattle.layout.specs.Walk.{Content, content}
 use Rattle.layout.specs.Read.{limit, Read, accepted, refused, readImage}
-use Rattle.layout.specs.Write.{Outcome, refuse, toldMade}
+use Rattle.layout.specs.Write.{Outcome, refuse, putBytes, toldMade}
 use Rattle.laws.proofs.Choices.{either}
 use Rattle.blocks.specs.declared.Offsets.{Offsets}
 use Rattle.blocks.specs.declared.Block.{Block}
@@ -24,7 +24,7 @@ use Rattle.blocks.specs.declared.Vended.{Vended}
 use Rattle.blocks.specs.declared.Vended.the-variants.{Tells, Unread}
 use Rattle.blocks.specs.Offset.{signed}
 use Rattle.blocks.specs.Payload.{matching, joined, serialLength, blockLength, blockPlace, blockOf, measured, checked, amplifier, payloadSays, payloadOf, cutInto, writable}
-use Rattle.blocks.specs.Vendor.{askChosen, asked, Taking, untaken, taking, takeMatching, takeRead, takeAsked, readVendor, toldVended, putValues, putAsked, writeVendor}
+use Rattle.blocks.specs.Vendor.{askChosen, asked, Taking, untaken, taking, takeMatching, takeRead, takeAsked, readVendor, toldVended, putAsked, writeVendor}
 use Rattle.blocks.proofs.Asking.{asked-short}
 use Rattle.promises.specs.Words.{IsRefused}
 use Rattle.promises.specs.Numbers.{Gives, taken, refused as refusedBy, imageNumbers}
@@ -136,7 +136,7 @@ write-leaves f e serial o pieces out = choose (asked f e (length out)) refl (ask
     unwritten : (n : ℕ) → oneOf writeNumbers n ≡ true → WriteLeaves out (refuse (refusal n 0) out)
     unwritten n h = record { low = record { number = h; place = omega arith }; same = λ _. refl }
 
-    puts : (values : List ℕ) → length out ≤ limit → WriteLeaves out (putValues values out)
+    puts : (values : List ℕ) → length out ≤ limit → WriteLeaves out (putBytes values out)
     puts values le =
         either (WriteLeaves out) (leb (length values) (length out))
         (λ t. let fits = leb-true (length values) (length out) t in record { low = omega arith; same = λ h. absurd (h refl) })

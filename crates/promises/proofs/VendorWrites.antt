@@ -18,13 +18,13 @@ use Rattle.layout.specs.Bytes.{if, all, oneOf, refusal}
 use Rattle.layout.specs.Onie.{fourBytes}
 use Rattle.layout.specs.Read.{limit}
 use Rattle.layout.specs.Calls.{Told}
-use Rattle.layout.specs.Write.{Outcome, refuse, toldMade}
-use Rattle.laws.specs.Grammar.{Each, none, also}
+use Rattle.layout.specs.Write.{Outcome, refuse, putBytes, toldMade}
+use Rattle.layout.specs.Each.{Each, none, also}
 use Rattle.laws.proofs.Choices.{refuted, both}
 use Rattle.blocks.specs.declared.Offsets.{Offsets}
 use Rattle.blocks.specs.Offset.{signedByte, offsetBytes}
 use Rattle.blocks.specs.Payload.{front, payloadOf, cutInto, sum, writable}
-use Rattle.blocks.specs.Vendor.{asked, putValues, putAsked, writeVendor}
+use Rattle.blocks.specs.Vendor.{asked, putAsked, writeVendor}
 use Rattle.blocks.proofs.Asking.{asked-four, write-asked}
 use Rattle.blocks.proofs.Lengths.{length-payload, length-values}
 use Rattle.promises.specs.Words.{Serves, Counts, Refuses}
@@ -87,7 +87,7 @@ module _ (e : ℕ) (serial : List ℕ) (o : Offsets) (lengths out : List ℕ) (s
   unfitting : (Fitting serial lengths → ⊥) → Refuses (tellsVendorWrite 4 e serial o lengths out) 18 0
   unfitting wrong = rw (asks, refuted (writable serial lengths) (λ q. wrong (writable-fitting serial lengths q)))
 
-  fitting : Fitting serial lengths → writeVendor 4 e serial o lengths out ≡ putValues (cutInto lengths (payloadOf serial o)) out
+  fitting : Fitting serial lengths → writeVendor 4 e serial o lengths out ≡ putBytes (cutInto lengths (payloadOf serial o)) out
   fitting x = asks ∙ rw (fitting-writable serial lengths x)
 
   unfit : Fitting serial lengths → length out < 5 * length lengths + (16 + length serial) → Refuses (tellsVendorWrite 4 e serial o lengths out) 12 0
@@ -117,7 +117,7 @@ write-done f e serial o lengths out n q = choose (asked f e (length out)) refl (
     never m some q = let z : m ≡ 0 = ap (λ (t : Told). t .number) q in absurd (omega arith)
 
     puts : (g : Format) (b : Bool) → asked f e (length out) ≡ Known g → writable serial lengths ≡ true → leb (length values) (length out) ≡ b →
-        Counts (toldMade (putValues values out .answer)) n → Done f e serial o lengths out n
+        Counts (toldMade (putBytes values out .answer)) n → Done f e serial o lengths out n
     puts g true k w l q =
         record {
           four = asked-four f e (length out) g k;
@@ -128,7 +128,7 @@ write-done f e serial o lengths out n q = choose (asked f e (length out)) refl (
     puts g false k w l q = never 12 (omega arith) (rw l at q)
 
     writes : (g : Format) (b : Bool) → asked f e (length out) ≡ Known g → writable serial lengths ≡ b →
-        Counts (toldMade (if {A = Outcome} b (λ _. putValues values out) (λ _. refuse (refusal 18 0) out) .answer)) n → Done f e serial o lengths out n
+        Counts (toldMade (if {A = Outcome} b (λ _. putBytes values out) (λ _. refuse (refusal 18 0) out) .answer)) n → Done f e serial o lengths out n
     writes g true k w q = puts g (leb (length values) (length out)) k w refl q
     writes g false k w q = never 18 (omega arith) q
 

@@ -15,7 +15,7 @@ use Rattle.layout.specs.Calls.{Told, toldRefusal}
 use Rattle.layout.specs.Write.{writerRule}
 use Rattle.layout.specs.Add.{addField}
 use Rattle.laws.specs.Contents.{said}
-use Rattle.laws.specs.Grammar.{Each}
+use Rattle.layout.specs.Each.{Each}
 use Rattle.promises.specs.Words.{Counts, Item, tellsCheck, tellsAdd}
 use Rattle.promises.specs.Names.{Named}
 use Rattle.promises.specs.Listing.{ListOf}

@@ -15,7 +15,7 @@ use Rattle.layout.specs.declared.Reading.{Reading}
 use Rattle.layout.specs.declared.Reading.the-variants.{Plain, Text, Number, Addresses, Numbered, Tests, Identified, Batched, Dated, Timed}
 use Rattle.layout.specs.Bytes.{stringNumber}
 use Rattle.laws.specs.Contents.{said}
-use Rattle.laws.specs.Grammar.{Each}
+use Rattle.layout.specs.Each.{Each}
 use Rattle.promises.specs.Words.{Serves, Counts, Lists, tellsCheck}
 use Rattle.promises.specs.Names.{Named}
 use Rattle.promises.specs.Rules.{Digit}

@@ -14,7 +14,8 @@ use Rattle.layout.specs.declared.Format.the-variants.{Fboss, Vpd, Tiny, Onie}
 use Rattle.layout.specs.Bytes.{part, partAt}
 use Rattle.layout.specs.Editions.{shape}
 use Rattle.laws.specs.Contents.{said, Tiles}
-use Rattle.laws.specs.Grammar.{grammar, EntryOf, Each}
+use Rattle.layout.specs.Each.{Each}
+use Rattle.laws.specs.Grammar.{grammar, EntryOf}
 use Rattle.promises.specs.Words.{Serves, Counts, Lists, tellsCheck, Changes, tellsChange, edits, adds, removes}
 
 -- a record's bytes, from its place on and as many as its frame has, are an entry of the grammar that says what the record says; without keys the key has length 0 and stands at the value's place

@@ -7,7 +7,7 @@ use lib.ListN.{length, take}
 use Rattle.layout.specs.declared.Field.{Field}
 use Rattle.layout.specs.Walk.{Content}
 use Rattle.laws.specs.Contents.{replaced, without}
-use Rattle.laws.specs.Grammar.{Each}
+use Rattle.layout.specs.Each.{Each}
 use Rattle.promises.specs.Words.{Counts, Reads, tellsCheck, Changes, tellsChange, edits, adds, removes}
 use Rattle.promises.specs.RoundTrip.{fieldSays}
 

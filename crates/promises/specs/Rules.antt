@@ -14,7 +14,8 @@ use Rattle.layout.specs.Walk.{Content}
 use Rattle.layout.specs.Read.{readerRule}
 use Rattle.layout.specs.Write.{writerRule}
 use Rattle.layout.specs.Edit.{editRule}
-use Rattle.laws.specs.Grammar.{grammar, EntryOf, Each}
+use Rattle.layout.specs.Each.{Each}
+use Rattle.laws.specs.Grammar.{grammar, EntryOf}
 use Rattle.promises.specs.Names.{Named}
 
 -- one is as good as the other

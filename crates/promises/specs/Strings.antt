@@ -9,7 +9,7 @@ use Rattle.layout.specs.declared.Entry.{Entry}
 use Rattle.layout.specs.Bytes.{part, partAt}
 use Rattle.layout.specs.Calls.{told, bytesAt, stringAt}
 use Rattle.laws.specs.Contents.{said}
-use Rattle.laws.specs.Grammar.{Each}
+use Rattle.layout.specs.Each.{Each}
 use Rattle.promises.specs.Words.{Counts, Refuses, IsRefused, Item, Lists, tellsCheck, tellsString}
 
 -- bytes that stand at p, cut into strings: each ends with the first byte whose top bit is on; an unfinished tail is no string

@@ -12,7 +12,7 @@ use Rattle.layout.specs.Bytes.{part, partAt}
 use Rattle.layout.specs.Walk.{Content}
 use Rattle.layout.specs.Calls.{Told}
 use Rattle.layout.specs.Write.{toldMade}
-use Rattle.laws.specs.Grammar.{Each}
+use Rattle.layout.specs.Each.{Each}
 use Rattle.blocks.specs.declared.Offsets.{Offsets}
 use Rattle.blocks.specs.declared.Block.{Block}
 use Rattle.blocks.specs.declared.Vended.the-variants.{Tells}

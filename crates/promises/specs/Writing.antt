@@ -13,7 +13,8 @@ use Rattle.layout.specs.declared.Field.{Field}
 use Rattle.layout.specs.Editions.{shape}
 use Rattle.layout.specs.Walk.{Content}
 use Rattle.layout.specs.Write.{writerRule, writeImage}
-use Rattle.laws.specs.Grammar.{Each, Among}
+use Rattle.layout.specs.Each.{Each}
+use Rattle.laws.specs.Grammar.{Among}
 use Rattle.promises.specs.Words.{Serves, Counts, tellsWrite}
 use Rattle.promises.specs.Names.{Named}
 use Rattle.promises.specs.RoundTrip.{fieldSays}

@@ -10,7 +10,8 @@ use Rattle.layout.specs.declared.Format.{Format}
 use Rattle.layout.specs.declared.Format.the-variants.{Fboss, Vpd, Tiny, Onie}
 use Rattle.layout.specs.Bytes.{if}
 use Rattle.layout.specs.Walk.{Content}
-use Rattle.laws.specs.Grammar.{grammar, Each}
+use Rattle.layout.specs.Each.{Each}
+use Rattle.laws.specs.Grammar.{grammar}
 
 -- the image of these bytes of entries: header, entries, the end, the right check
 pub data Written : Format → List ℕ → List ℕ → Type 0 where

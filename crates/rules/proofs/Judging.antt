@@ -17,7 +17,7 @@ use Rattle.layout.specs.Walk.{Content, labelOf}
 use Rattle.layout.specs.Read.{seenBefore, orElse, complete}
 use Rattle.layout.specs.Write.{fieldAt, fieldKey, partsInside, fieldContent, writerRule, fieldFault, judgeFields, contentsOf, contentCodes, entryBytes, entriesBytes}
 use Rattle.laws.specs.Marked.{allMarked}
-use Rattle.laws.proofs.Lists.{joined-append}
+use Rattle.layout.proofs.Lists.{joined-append}
 use Rattle.laws.proofs.Marks.{Marks, none-marked, one-marked, marked-complete}
 use Rattle.laws.proofs.Names.{named-byte, required-bytes}
 use Rattle.laws.proofs.Seen.{labelCodes}

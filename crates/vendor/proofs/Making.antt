@@ -14,12 +14,12 @@ use Rattle.layout.specs.declared.Made.{Made}
 use Rattle.layout.specs.declared.Made.the-variants.{Wrote}
 use Rattle.layout.specs.Bytes.{if, all, part, refusal}
 use Rattle.layout.specs.Read.{limit}
-use Rattle.layout.specs.Write.{Outcome, refuse}
+use Rattle.layout.specs.Write.{Outcome, refuse, putBytes}
 use Rattle.laws.proofs.Choices.{both}
 use Rattle.output.specs.Placing.{copied}
 use Rattle.blocks.specs.declared.Offsets.{Offsets}
 use Rattle.blocks.specs.Payload.{front, payloadOf, cutInto, sum, writable}
-use Rattle.blocks.specs.Vendor.{asked, putValues, writeVendor}
+use Rattle.blocks.specs.Vendor.{asked, writeVendor}
 use Rattle.blocks.proofs.Asking.{asked-short, write-asked}
 use Rattle.blocks.proofs.Lengths.{length-front, length-values}
 use Rattle.vendor.specs.declared.Pieces.the-variants.{Right, Wrong}
@@ -40,11 +40,11 @@ module _ (serial : List ℕ) (o : Offsets) (pieces : List ℕ) (whole : sum piec
   long : length values ≡ 5 * length pieces + (16 + length serial)
   long = length-values serial o pieces whole
 
-  pub values-short : (out : List ℕ) → length out < 5 * length pieces + (16 + length serial) → putValues values out ≡ refuse (refusal 12 0) out
+  pub values-short : (out : List ℕ) → length out < 5 * length pieces + (16 + length serial) → putBytes values out ≡ refuse (refusal 12 0) out
   values-short out lt = rw (lt-leb (length values) (length out) (omega (arith, long)))
 
   pub values-fit : (out : List ℕ) → 5 * length pieces + (16 + length serial) ≤ length out →
-      putValues values out ≡ record { answer = Wrote (5 * length pieces + (16 + length serial)); memory = copied out 0 values }
+      putBytes values out ≡ record { answer = Wrote (5 * length pieces + (16 + length serial)); memory = copied out 0 values }
   values-fit out le =
       let fits : length values ≤ length out = omega (arith, long) in
       rw (le-leb (length values) (length out) fits, copied-front out values fits, long)
@@ -62,7 +62,7 @@ module _ (f e : ℕ) (serial : List ℕ) (o : Offsets) (pieces out : List ℕ) w
 
     module _ (le : length serial ≤ 255) where
       by-pieces : (b : Bool) → (all (λ n. leb n 250) pieces && eqb (sum pieces) (16 + length serial)) ≡ b →
-          writeVendor f e serial o pieces out ≡ if b (λ _. putValues (cutInto pieces (payloadOf serial o)) out) (λ _. refuse (refusal 18 0) out)
+          writeVendor f e serial o pieces out ≡ if b (λ _. putBytes (cutInto pieces (payloadOf serial o)) out) (λ _. refuse (refusal 18 0) out)
       unfolding writable
       by-pieces b is = write-asked f e serial o pieces out g q ∙ rw (le-leb (length serial) 255 le, is)
 
@@ -78,7 +78,7 @@ module _ (f e : ℕ) (serial : List ℕ) (o : Offsets) (pieces out : List ℕ) w
       pub record Fitting (n : ℕ) : Type 0 where
         pub count : n ≡ length pieces
         pub total : sum pieces ≡ 16 + length serial
-        pub is : writeVendor f e serial o pieces out ≡ putValues (cutInto pieces (payloadOf serial o)) out
+        pub is : writeVendor f e serial o pieces out ≡ putBytes (cutInto pieces (payloadOf serial o)) out
 
       pub write-right : (n : ℕ) → countedBy pieces (16 + length serial) ≡ Right n → Fitting n
       write-right n w = go (all (λ n. leb n 250) pieces && eqb (sum pieces) (16 + length serial)) refl w

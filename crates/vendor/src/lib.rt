@@ -7,10 +7,11 @@ ghost use lib.ListN.{length, getD, drop, take};
 ghost use Rattle.layout.specs.Bytes.{if, part, sameBytes, refusal};
 ghost use Rattle.layout.specs.Walk.{content};
 ghost use Rattle.layout.specs.Read.{limit};
+ghost use Rattle.layout.specs.Write.{putBytes};
 ghost use Rattle.laws.specs.Passes.{walked, IsDone, rawsIn};
 ghost use Rattle.output.specs.Placing.{copied};
 ghost use Rattle.blocks.specs.Payload.{prefix, matches, matching, joined, serialLength, blockLength, measured, checked, amplifier, blockOf, payloadSays, front, payloadOf, cutInto, sum};
-ghost use Rattle.blocks.specs.Vendor.{asked, taking, takeMatching, readVendor, piecesIn, putValues, writeVendor};
+ghost use Rattle.blocks.specs.Vendor.{asked, taking, takeMatching, readVendor, piecesIn, writeVendor};
 ghost use Rattle.vendor.specs.Pieces.{joinedBy, countedBy};
 use accept::Taken;
 use blocks::Block;
@@ -370,8 +371,8 @@ fn put_pieces(out: &mut [u8], pieces: &[u8], payload: &[u8])
 // The values of a payload in so many pieces, where they fit.
 fn put_values(out: &mut [u8], serial: &[u8], offsets: Offsets, pieces: &[u8], n: usize) -> Made
     requires { ⌜ (length (now out) ≤ limit) × (length (now serial) ≤ 255) × (n ≡ length (piecesIn (now pieces))) × (sum (piecesIn (now pieces)) ≡ 16 + length (now serial)) ⌝ }
-    ensures { λ r. ⌜ r ≡ putValues (cutInto (piecesIn (now (pieces .entry))) (payloadOf (now (serial .entry)) offsets)) (now (out .entry)) .answer ⌝ }
-    ensures { λ r. ⌜ now (out .exit) ≡ putValues (cutInto (piecesIn (now (pieces .entry))) (payloadOf (now (serial .entry)) offsets)) (now (out .entry)) .memory ⌝ }
+    ensures { λ r. ⌜ r ≡ putBytes (cutInto (piecesIn (now (pieces .entry))) (payloadOf (now (serial .entry)) offsets)) (now (out .entry)) .answer ⌝ }
+    ensures { λ r. ⌜ now (out .exit) ≡ putBytes (cutInto (piecesIn (now (pieces .entry))) (payloadOf (now (serial .entry)) offsets)) (now (out .entry)) .memory ⌝ }
 {
     let len = 16 + serial.len();
     if 65536 < n {

@@ -11,8 +11,8 @@ use Rattle.layout.specs.Shape.{Shape}
 use Rattle.layout.specs.Walk.{Content}
 use Rattle.layout.specs.Read.{limit}
 use Rattle.layout.specs.Write.{fieldAt, fieldContent, fieldsIn, entryBytes, entriesBytes}
-use Rattle.laws.specs.Grammar.{none, also}
-use Rattle.laws.proofs.Lists.{joined-append}
+use Rattle.layout.specs.Each.{none, also}
+use Rattle.layout.proofs.Lists.{joined-append}
 use Rattle.output.specs.Lengths.{capped}
 use Rattle.output.specs.Placing.{over, openingPlaced, valuePlaced}
 use Rattle.output.proofs.Lengths.{capped-min}

@@ -17,7 +17,7 @@ use Rattle.layout.specs.Editions.{shape, chosen}
 use Rattle.layout.specs.Walk.{Content}
 use Rattle.layout.specs.Read.{limit, complete}
 use Rattle.layout.specs.Write.{judgeFields, contentsOf, contentCodes, imageOf, refuse, put, writeJudged, writeAs, writeImage}
-use Rattle.laws.specs.Grammar.{Each, none, also}
+use Rattle.layout.specs.Each.{Each, none, also}
 use Rattle.laws.proofs.Formats.{laws}
 use Rattle.laws.proofs.Names.{named-byte}
 use Rattle.laws.proofs.Writing.{Writable, fields-fine, writer-parts}

@@ -9,7 +9,7 @@ use Rattle.layout.specs.declared.Field.{Field}
 use Rattle.layout.specs.Shape.{Shape}
 use Rattle.layout.specs.Walk.{Content}
 use Rattle.layout.specs.Write.{fieldContent, contentsOf, entryBytes, entriesBytes}
-use Rattle.laws.specs.Grammar.{Each}
+use Rattle.layout.specs.Each.{Each}
 
 -- the bytes of the entry that a field makes, and of those that fields make
 abbrev pub fieldBytes : Shape → List ℕ → Field → List ℕ

@@ -8,7 +8,7 @@ use lib.ListN.{length, getD, drop}
 use lib.Seq.{drop-cons}
 use lib.Dec.{eqb}
 use borrow.Author.Tests.{eqb-true}
-use Rattle.laws.specs.Grammar.{Each, none, also}
+use Rattle.layout.specs.Each.{Each, none, also}
 
 -- A list goes on from a place with the byte that a test found there.
 pub byte-at : (l : List ℕ) (j b : ℕ) → j < length l → eqb (getD l j 0) b ≡ true → drop j l ≡ b ∷ drop (suc j) l

@@ -1,0 +1,8 @@
+-- What holds of each item of a list.
+-- Assumes nothing.
+use mathlib.Core.List.{List, [], _∷_}
+
+-- what holds of each item
+pub data Each {A : Type 0} (P : A → Type 0) : List A → Type 0 where
+  none : Each P []
+  also : {x : A} {xs : List A} → P x → Each P xs → Each P (x ∷ xs)
