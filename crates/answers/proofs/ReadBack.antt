@@ -16,7 +16,7 @@ use Rattle.layout.specs.Calls.{Told, entriesIn}
 use Rattle.layout.specs.Write.{word}
 use Rattle.laws.specs.Contents.{said}
 use Rattle.layout.specs.Each.{Each, also}
-use Rattle.laws.proofs.Choices.{either}
+use Rattle.layout.proofs.Choices.{either}
 use Rattle.layout.proofs.Lists.{length-map}
 use Rattle.laws.proofs.Passes.{part-byte}
 use Rattle.records.specs.Packed.{packed}

@@ -18,7 +18,7 @@ use Rattle.layout.specs.Onie.{onie, onieReading}
 use Rattle.layout.specs.Editions.{shape}
 use Rattle.layout.specs.Calls.{toldReading}
 use Rattle.layout.specs.Each.{Each, none, also}
-use Rattle.laws.proofs.Choices.{either}
+use Rattle.layout.proofs.Choices.{either}
 use Rattle.laws.proofs.Passes.{part-most}
 
 abbrev pub Bytes : List ℕ → Type 0

@@ -24,7 +24,7 @@ use Rattle.layout.specs.Calls.{toldReading, entryOf, entriesOf, entriesBy, entr
 use Rattle.layout.specs.Write.{word}
 use Rattle.layout.specs.Each.{Each, none, also}
 use Rattle.laws.specs.Grammar.{grammar}
-use Rattle.laws.proofs.Choices.{either}
+use Rattle.layout.proofs.Choices.{either}
 use Rattle.laws.proofs.Formats.{laws}
 use Rattle.layout.proofs.Lists.{each-left, each-right, each-append}
 use Rattle.laws.proofs.Passes.{raw-code}

@@ -22,7 +22,7 @@ use Rattle.layout.specs.Add.{mayAdd, addedEntries, addition, addField}
 use Rattle.laws.specs.Grammar.{Grammar, grammar}
 use Rattle.laws.specs.Passes.{walked, IsDone, rawsIn}
 use Rattle.laws.proofs.Changing.{laid-flat}
-use Rattle.laws.proofs.Choices.{false-true}
+use Rattle.layout.proofs.Choices.{false-true}
 use Rattle.laws.proofs.Formats.{laws}
 use Rattle.laws.proofs.Frames.{raw-size}
 use Rattle.laws.proofs.Passes.{Passing, pass-first, pass-on, pass-ends, pass-unbroken}

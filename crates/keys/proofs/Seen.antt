@@ -14,7 +14,7 @@ use Rattle.layout.specs.Shape.{Shape, Label}
 use Rattle.layout.specs.Vpd.{vpd, vpdTwice}
 use Rattle.layout.specs.Editions.{shape}
 use Rattle.layout.specs.Read.{same, seenBefore}
-use Rattle.laws.proofs.Images.{same-true}
+use Rattle.layout.proofs.Lists.{same-true}
 use Rattle.keys.specs.Filter.{mayKnow, noted, mayRepeat, withKey}
 use Rattle.keys.proofs.Knowing.{noted-length, noted-known, known-stays}
 

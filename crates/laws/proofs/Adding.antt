@@ -25,7 +25,7 @@ use Rattle.layout.specs.Change.{bytesOf, laid, allowed, denied}
 use Rattle.layout.specs.Add.{mayAdd, addedEntries, addition}
 use Rattle.layout.specs.Each.{Each, none, also}
 use Rattle.laws.specs.Grammar.{Grammar, grammar, Lawful, noMore, andThen}
-use Rattle.laws.proofs.Choices.{false-true, refuted, either, both}
+use Rattle.layout.proofs.Choices.{false-true, refuted, either, both}
 use Rattle.layout.proofs.Lists.{each-map, each-append, each-first, each-rest}
 use Rattle.laws.proofs.Seen.{and-true, label-codes, seen-codes}
 use Rattle.laws.proofs.Frames.{IsRaw}

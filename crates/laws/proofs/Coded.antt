@@ -17,7 +17,8 @@ use Rattle.layout.specs.Editions.{names}
 use Rattle.layout.specs.Write.{imageOf}
 use Rattle.laws.specs.Grammar.{codedGrammar}
 use Rattle.laws.proofs.Format.{Laws, Begins, Holds, Wholly}
-use Rattle.laws.proofs.Choices.{false-true, either, OnHeaded}
+use Rattle.layout.proofs.Choices.{false-true, either}
+use Rattle.laws.proofs.Outcomes.{OnHeaded}
 use Rattle.layout.proofs.Lists.{byte-at}
 use Rattle.laws.proofs.OneByte.{bare-key, bare-begins, byte-goes, byte-read}
 

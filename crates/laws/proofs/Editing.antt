@@ -22,7 +22,7 @@ use Rattle.laws.proofs.Frames.{IsRaw, raw-content}
 use Rattle.laws.proofs.Walking.{Frames}
 use Rattle.laws.proofs.Judging.{RuledAt, lawful-replaced}
 use Rattle.laws.proofs.Changing.{rawsInPlace, in-place-bytes, NamedAt, never-denied, may-at, at-may, Leaves}
-use Rattle.laws.proofs.Choices.{both}
+use Rattle.layout.proofs.Choices.{both}
 
 -- what stands before the length of a frame's value
 abbrev pub headOf : Frame → Head

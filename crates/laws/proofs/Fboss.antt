@@ -15,7 +15,8 @@ use Rattle.layout.specs.Fboss.{fboss, fbossCoded, fbossOpened}
 use Rattle.layout.specs.Editions.{names, sinceIn}
 use Rattle.laws.specs.Grammar.{fbossGrammar}
 use Rattle.laws.proofs.Format.{Laws, Holds}
-use Rattle.laws.proofs.Choices.{either, both, OnOpened}
+use Rattle.layout.proofs.Choices.{either, both}
+use Rattle.laws.proofs.Outcomes.{OnOpened}
 use Rattle.layout.proofs.Lists.{byte-at}
 use Rattle.laws.proofs.Coded.{Rooms, closing-ends, coded-laws}
 

@@ -8,41 +8,21 @@ use mathlib.Core.Bool.{Bool, true, false}
 use native.Mathlib.Omega.{arith}
 use lib.ListN.{length, take, drop, length-append, take-append-drop}
 use lib.Seq.{take-at, drop-at}
-use lib.Dec.{eqb}
-use borrow.Author.Tests.{eqb-true, eq-eqb}
 use Rattle.layout.specs.declared.Format.{Format}
 use Rattle.layout.specs.declared.Refusal.{Refusal}
 use Rattle.layout.specs.declared.Opened.{Opened}
 use Rattle.layout.specs.declared.Opened.the-variants.{Room, Closed}
-use Rattle.layout.specs.Bytes.{if, sameBytes, part, refusal}
+use Rattle.layout.specs.Bytes.{if, part, refusal}
 use Rattle.layout.specs.Shape.{Shape, Judged, fine, faulty}
 use Rattle.layout.specs.Editions.{shape}
 use Rattle.layout.specs.Walk.{Raw, content, flat, Walked, done, stop, walk}
 use Rattle.layout.specs.Read.{sealed, checkPlace, judge, complete, codesOf, accepted, refused, bad, readComplete, readAs}
+use Rattle.layout.proofs.Lists.{same-refl, same-true}
 use Rattle.laws.specs.Grammar.{grammar, Lawful}
 use Rattle.laws.proofs.Format.{Laws, Holds}
 use Rattle.laws.proofs.Frames.{part-between}
 use Rattle.laws.proofs.Walking.{Frames, walk-flat, walk-decode}
 use Rattle.laws.proofs.Judging.{judge-lawful, lawful-judge}
-use Rattle.laws.proofs.Choices.{false-true}
-
--- ---- the same bytes
-
-pub same-refl : (xs : List ℕ) → sameBytes xs xs ≡ true
-unfolding sameBytes
-same-refl [] = refl
-same-refl (x ∷ xs) = rw (eq-eqb x x refl) (same-refl xs)
-
-pub same-true : (xs ys : List ℕ) → sameBytes xs ys ≡ true → xs ≡ ys
-unfolding sameBytes
-same-true [] [] e = refl
-same-true [] (y ∷ ys) e = false-true e
-same-true (x ∷ xs) [] e = false-true e
-same-true (x ∷ xs) (y ∷ ys) e = go (eqb x y) refl e (same-true xs ys)
-  where
-    go : (b : Bool) → eqb x y ≡ b → if b (λ _. sameBytes xs ys) (λ _. false) ≡ true → (sameBytes xs ys ≡ true → xs ≡ ys) → x ∷ xs ≡ y ∷ ys
-    go true q e rest = let p = eqb-true x y q in let r = rest e in cc
-    go false q e rest = false-true e
 
 -- ---- the check
 

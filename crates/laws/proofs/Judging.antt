@@ -15,7 +15,7 @@ use Rattle.laws.specs.Contents.{valued, replaced}
 use Rattle.layout.specs.Each.{Each, none, also}
 use Rattle.laws.specs.Grammar.{Ruled, New, Lawful, noMore, andThen}
 use Rattle.layout.proofs.Lists.{each-map, each-every}
-use Rattle.laws.proofs.Choices.{false-true, both}
+use Rattle.layout.proofs.Choices.{false-true, both}
 
 -- not seen before: no label seen is the same
 pub unseen : (S : Shape) (a : Label) (seen : List Label) → seenBefore S seen a ≡ false → Each (λ b. same S a b ≡ false) seen

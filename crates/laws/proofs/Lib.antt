@@ -1,5 +1,5 @@
 pub mod Calls
-pub mod Choices
+pub mod Outcomes
 pub mod Years
 pub mod Coded
 pub mod Changing

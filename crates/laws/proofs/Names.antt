@@ -17,7 +17,7 @@ use Rattle.layout.specs.Tiny.{tiny}
 use Rattle.layout.specs.Onie.{onie}
 use Rattle.layout.specs.Editions.{shape, from, sinceIn, reached, names}
 use Rattle.layout.specs.Each.{Each, none, also}
-use Rattle.laws.proofs.Choices.{false-true, both}
+use Rattle.layout.proofs.Choices.{false-true, both}
 
 named-below : (ns : List Naming) (e c : ℕ) → Each (λ n. n .high < 256) ns → reached (sinceIn ns c) e ≡ true → c < 256
 unfolding sinceIn

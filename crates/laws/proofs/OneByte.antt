@@ -14,7 +14,8 @@ use Rattle.layout.specs.declared.Length.the-variants.{Reads}
 use Rattle.layout.specs.Shape.{bareHead, byteLength}
 use Rattle.laws.specs.Grammar.{Grammar}
 use Rattle.laws.proofs.Format.{KeyLast, Begins, Goes}
-use Rattle.laws.proofs.Choices.{either, OnLength}
+use Rattle.layout.proofs.Choices.{either}
+use Rattle.laws.proofs.Outcomes.{OnLength}
 
 -- A code byte alone ends with the empty key.
 pub bare-key : {front key : List ℕ} {c : ℕ} → front ≡ c ∷ [] → key ≡ [] → KeyLast front key

@@ -16,9 +16,9 @@ use Rattle.layout.specs.Editions.{names, sinceIn}
 use Rattle.layout.specs.Write.{imageOf}
 use Rattle.laws.specs.Grammar.{onieGrammar}
 use Rattle.laws.proofs.Format.{Laws, Holds}
-use Rattle.laws.proofs.Choices.{either, both, OnOpened}
-use Rattle.layout.proofs.Lists.{byte-at}
-use Rattle.laws.proofs.Images.{same-true}
+use Rattle.layout.proofs.Choices.{either, both}
+use Rattle.laws.proofs.Outcomes.{OnOpened}
+use Rattle.layout.proofs.Lists.{byte-at, same-true}
 use Rattle.laws.proofs.Coded.{Rooms, closing-ends, coded-laws}
 
 -- what a room tells of the image: it begins with the header, and the room ends where the declared length says

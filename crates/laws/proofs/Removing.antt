@@ -16,7 +16,7 @@ use Rattle.layout.specs.Remove.{removeAsks, removal}
 use Rattle.laws.specs.Contents.{without}
 use Rattle.layout.specs.Each.{Each}
 use Rattle.laws.specs.Grammar.{Grammar, New, Lawful, noMore, andThen}
-use Rattle.laws.proofs.Choices.{false-true, both}
+use Rattle.layout.proofs.Choices.{false-true, both}
 use Rattle.layout.proofs.Lists.{length-map, each-left, each-right, each-append}
 use Rattle.laws.proofs.Walking.{Frames}
 use Rattle.laws.proofs.Changing.{rawsInPlace, in-place-bytes, NamedAt, named-index, never-denied, may-at, at-may, Leaves}

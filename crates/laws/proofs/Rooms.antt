@@ -17,7 +17,7 @@ use Rattle.layout.specs.Vpd.{vpd}
 use Rattle.layout.specs.Tiny.{tiny, tinyOpened}
 use Rattle.layout.specs.Onie.{onie, onieOpened, onieFilled}
 use Rattle.layout.specs.Editions.{shape}
-use Rattle.laws.proofs.Choices.{OnOpened, on-opened}
+use Rattle.laws.proofs.Outcomes.{OnOpened, on-opened}
 use Rattle.laws.proofs.Fboss.{FbossRoom, fboss-room}
 use Rattle.laws.proofs.Tiny.{TinyRoom, tiny-room}
 use Rattle.laws.proofs.Onie.{OnieRoom, onie-room}

@@ -19,7 +19,8 @@ use Rattle.layout.specs.Tiny.{tiny, tinyOpened, tinyHead, tinyLength}
 use Rattle.layout.specs.Editions.{names, sinceIn}
 use Rattle.laws.specs.Grammar.{TinySays, tinyGrammar}
 use Rattle.laws.proofs.Format.{Laws, Begins, Goes, Holds}
-use Rattle.laws.proofs.Choices.{false-true, either, both, OnHeaded, OnLength, OnOpened}
+use Rattle.layout.proofs.Choices.{false-true, either, both}
+use Rattle.laws.proofs.Outcomes.{OnHeaded, OnLength, OnOpened}
 use Rattle.layout.proofs.Lists.{byte-at}
 use Rattle.laws.proofs.OneByte.{bare-key, bare-begins, byte-goes, byte-read}
 

@@ -20,7 +20,7 @@ use Rattle.laws.proofs.Frames.{IsRaw, frameFrom, raw-content}
 use Rattle.laws.proofs.Walking.{Frames}
 use Rattle.layout.proofs.Lists.{each-first, each-rest, each-map, each-both, each-left, each-right, each-append}
 use Rattle.laws.proofs.Judging.{or-fine, unseen, each-unseen}
-use Rattle.laws.proofs.Choices.{false-true, both}
+use Rattle.layout.proofs.Choices.{false-true, both}
 use Rattle.laws.proofs.Images.{imageFrom}
 
 -- a new entry

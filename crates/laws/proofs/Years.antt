@@ -11,7 +11,7 @@ use borrow.Author.Tests.{leb-true, le-leb, eqb-true, ne-eqb}
 use Rattle.layout.specs.Bytes.{between, oneOf}
 use Rattle.layout.specs.Calendar.{leap, lastDay, isDay, date}
 use Rattle.layout.specs.Years.{cycle, lastPrinted, Printed, daysOf, daysTo, AsPrinted}
-use Rattle.laws.proofs.Choices.{both}
+use Rattle.layout.proofs.Choices.{both}
 
 -- ---- tests
 

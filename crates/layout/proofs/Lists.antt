@@ -1,14 +1,16 @@
--- What is known of a list of bytes from tests of its bytes, of lists that are joined item by item, and of each item of a list from its parts.
+-- What is known of a list of bytes from tests of its bytes, of lists that are the same bytes, of lists that are joined item by item, and of each item of a list from its parts.
 -- Assumes nothing.
 use Prim.Native.Nat.{ℕ, suc, _<_}
 use mathlib.Core.Path.{_≡_, refl, ap, sym, _∙_}
 use mathlib.Core.List.{List, [], _∷_, _++_, append-assoc, map}
-use mathlib.Core.Bool.{true}
+use mathlib.Core.Bool.{Bool, true, false}
 use lib.ListN.{length, getD, drop}
 use lib.Seq.{drop-cons}
 use lib.Dec.{eqb}
-use borrow.Author.Tests.{eqb-true}
+use borrow.Author.Tests.{eqb-true, eq-eqb}
+use Rattle.layout.specs.Bytes.{if, sameBytes}
 use Rattle.layout.specs.Each.{Each, none, also}
+use Rattle.layout.proofs.Choices.{false-true}
 
 -- A list goes on from a place with the byte that a test found there.
 pub byte-at : (l : List ℕ) (j b : ℕ) → j < length l → eqb (getD l j 0) b ≡ true → drop j l ≡ b ∷ drop (suc j) l
@@ -24,6 +26,24 @@ joined-append {B = B} h g nil one (x ∷ xs) ys =
 pub length-map : {A B : Type 0} (f : A → B) (xs : List A) → length (map f xs) ≡ length xs
 length-map f [] = refl
 length-map f (x ∷ xs) = ap suc (length-map f xs)
+
+-- ---- the same bytes
+
+pub same-refl : (xs : List ℕ) → sameBytes xs xs ≡ true
+unfolding sameBytes
+same-refl [] = refl
+same-refl (x ∷ xs) = rw (eq-eqb x x refl) (same-refl xs)
+
+pub same-true : (xs ys : List ℕ) → sameBytes xs ys ≡ true → xs ≡ ys
+unfolding sameBytes
+same-true [] [] e = refl
+same-true [] (y ∷ ys) e = false-true e
+same-true (x ∷ xs) [] e = false-true e
+same-true (x ∷ xs) (y ∷ ys) e = go (eqb x y) refl e (same-true xs ys)
+  where
+    go : (b : Bool) → eqb x y ≡ b → if b (λ _. sameBytes xs ys) (λ _. false) ≡ true → (sameBytes xs ys ≡ true → xs ≡ ys) → x ∷ xs ≡ y ∷ ys
+    go true q e rest = let p = eqb-true x y q in let r = rest e in cc
+    go false q e rest = false-true e
 
 -- ---- what holds of each item
 

@@ -14,7 +14,7 @@ use lib.Dec.{T}
 use mir.Syntax.{w8}
 use mir.Val.{Fits, SFits, toZ, ofZ}
 use mir.Facts.{toZ-ofZ, toZ-pos}
-use Rattle.laws.proofs.Choices.{false-true}
+use Rattle.layout.proofs.Choices.{false-true}
 use Rattle.blocks.specs.declared.Offsets.{Offsets}
 use Rattle.blocks.specs.Offset.{signed, signedByte, offsetsIn, eachOffset}
 use Rattle.blocks.proofs.Signs.{low-signed, high-signed}

@@ -19,7 +19,7 @@ use Rattle.layout.specs.Onie.{onie, onieCheck}
 use Rattle.layout.specs.Editions.{shape}
 use Rattle.layout.specs.Read.{limit}
 use Rattle.layout.specs.Write.{body, imageOf}
-use Rattle.laws.proofs.Choices.{both}
+use Rattle.layout.proofs.Choices.{both}
 use Rattle.output.specs.Lengths.{tooLong, capped, sealedLength, fitsIn}
 
 -- A length that is cut off, for `omega`.

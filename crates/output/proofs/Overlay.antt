@@ -12,7 +12,7 @@ use lib.Seq.{drop-append-add, drop-drop, take-at, take-all, take-suc, set-split,
 use lib.Dec.{leb}
 use Rattle.layout.specs.Bytes.{part}
 use Rattle.layout.specs.Write.{padded}
-use Rattle.laws.proofs.Choices.{either}
+use Rattle.layout.proofs.Choices.{either}
 use Rattle.laws.proofs.Frames.{part-between}
 use Rattle.output.specs.Placing.{over, copied}
 

@@ -10,7 +10,7 @@ use lib.ListN.{length, length-append}
 use lib.Dec.{ltb, leb}
 use Rattle.layout.specs.Shape.{Shape}
 use Rattle.layout.specs.Read.{limit}
-use Rattle.laws.proofs.Choices.{both}
+use Rattle.layout.proofs.Choices.{both}
 use Rattle.output.specs.Lengths.{capped, hasRoom}
 use Rattle.output.specs.Placing.{copied, placed, openingPlaced, valuePlaced}
 use Rattle.output.proofs.Lengths.{capped-min, fits-alike}

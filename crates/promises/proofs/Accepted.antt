@@ -20,7 +20,7 @@ use Rattle.layout.specs.Onie.{onie}
 use Rattle.layout.specs.Read.{limit, Read}
 use Rattle.layout.specs.Write.{Outcome, padded, refuse, put, toldMade}
 use Rattle.layout.specs.Change.{Change, changeAllowed, changeRead, changeImage}
-use Rattle.laws.proofs.Choices.{both, false-true}
+use Rattle.layout.proofs.Choices.{both, false-true}
 use Rattle.laws.proofs.Calls.{Found, change-read}
 use Rattle.promises.specs.Words.{Counts, Refuses}
 use Rattle.promises.specs.Written.{headerSize, Fits}

@@ -22,7 +22,7 @@ use Rattle.layout.specs.Add.{mayAdd, addedEntries, addition, addField}
 use Rattle.laws.specs.Contents.{said}
 use Rattle.layout.specs.Each.{Each, none, also}
 use Rattle.laws.specs.Grammar.{Grammar, grammar}
-use Rattle.laws.proofs.Choices.{false-true, either}
+use Rattle.layout.proofs.Choices.{false-true, either}
 use Rattle.layout.proofs.Lists.{each-first, each-rest, each-map}
 use Rattle.laws.proofs.Walking.{Frames}
 use Rattle.laws.proofs.Writing.{keyless}

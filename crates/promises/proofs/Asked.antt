@@ -19,7 +19,7 @@ use Rattle.layout.specs.Change.{Change, changeImage}
 use Rattle.layout.specs.Edit.{edit}
 use Rattle.layout.specs.Add.{addition}
 use Rattle.layout.specs.Remove.{removal}
-use Rattle.laws.proofs.Choices.{refuted}
+use Rattle.layout.proofs.Choices.{refuted}
 use Rattle.promises.specs.Words.{FormatNumber, fboss, vpd, tiny, onie, KnownEdition, firstEdition, Refuses}
 use Rattle.promises.specs.Asked.{AllRefuse, TooLong, Asked}
 use Rattle.promises.proofs.Telling.{edition-known, known-edition, first-edition, number-chosen, serves-chosen}

@@ -26,7 +26,7 @@ use Rattle.laws.proofs.Walking.{Frames}
 use Rattle.laws.proofs.Records.{raw-placed}
 use Rattle.laws.proofs.Changing.{laid-flat}
 use Rattle.laws.proofs.Editing.{Editable, may-editable, editable-may}
-use Rattle.laws.proofs.Choices.{both}
+use Rattle.layout.proofs.Choices.{both}
 use Rattle.laws.proofs.Formats.{laws}
 use Rattle.laws.proofs.Calls.{Found}
 use Rattle.promises.specs.Words.{Counts, Item, here, there, tellsEdit}

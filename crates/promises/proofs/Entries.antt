@@ -23,7 +23,7 @@ use Rattle.layout.specs.Calls.{entriesOf, nth, stringIn, poolString}
 use Rattle.laws.specs.Contents.{Tiles}
 use Rattle.layout.specs.Each.{Each, none, also}
 use Rattle.laws.specs.Grammar.{grammar}
-use Rattle.laws.proofs.Choices.{either}
+use Rattle.layout.proofs.Choices.{either}
 use Rattle.laws.proofs.Formats.{laws}
 use Rattle.laws.proofs.Frames.{raw-size}
 use Rattle.laws.proofs.Passes.{part-most}

@@ -28,7 +28,7 @@ use Rattle.layout.specs.Vpd.{vpd, groups, keyedHead, vpdHead}
 use Rattle.layout.specs.Tiny.{tiny, tinyOpened, tinyHead, tinyLength}
 use Rattle.layout.specs.Onie.{onie, tlvInfo, declared, mostDeclared, onieOpened}
 use Rattle.layout.specs.Editions.{shape, knownEdition, withEdition, chosen}
-use Rattle.laws.proofs.Choices.{false-true, either, both}
+use Rattle.layout.proofs.Choices.{false-true, either, both}
 use Rattle.promises.specs.FramesAlike.{frameNumbers}
 
 -- one of these numbers, and a place that is not beyond `most`

@@ -16,7 +16,7 @@ use Rattle.layout.specs.Walk.{Raw, content, flat}
 use Rattle.layout.specs.Read.{limit, judge, Read, accepted, refused, bad, readComplete, readAs, readChosen, readImage}
 use Rattle.layout.specs.Calls.{Told, toldChecked, checkedBy, checkImage}
 use Rattle.laws.specs.Grammar.{grammar}
-use Rattle.laws.proofs.Choices.{false-true, either}
+use Rattle.layout.proofs.Choices.{false-true, either}
 use Rattle.laws.proofs.Formats.{laws}
 use Rattle.laws.proofs.Images.{imageFrom, IsFramed, Way, unframed, framed, way, made-read}
 use Rattle.promises.specs.Words.{Serves, tellsCheck}

@@ -14,7 +14,7 @@ use Rattle.layout.specs.Vpd.{vpd}
 use Rattle.layout.specs.Tiny.{tiny}
 use Rattle.layout.specs.Onie.{onie}
 use Rattle.layout.specs.Editions.{shape, from, never, sinceIn, reached, names}
-use Rattle.laws.proofs.Choices.{refuted, false-true, both}
+use Rattle.layout.proofs.Choices.{refuted, false-true, both}
 use Rattle.promises.specs.Words.{KnownEdition}
 use Rattle.promises.specs.Names.{One, Two, Named, sinceOne, sinceTwo, sinceThree, vpd01, tiny01, tiny10, tiny11, tiny60, tiny61, tiny62, vpdFE, tiny80, tiny81, onie21, onie22, onie23, onie24, onie25, onie2A, onie2B, onie2C, onie2D, onieFD}
 

@@ -22,7 +22,7 @@ use Rattle.layout.specs.Write.{writeImage, toldMade}
 use Rattle.layout.specs.Edit.{editEntry}
 use Rattle.layout.specs.Add.{addField}
 use Rattle.layout.specs.Remove.{removeEntry}
-use Rattle.laws.proofs.Choices.{either}
+use Rattle.layout.proofs.Choices.{either}
 use Rattle.promises.specs.Words.{tellsList}
 use Rattle.promises.specs.Numbers.{Gives, taken, refused as refusedBy, imageNumbers, writeNumbers, changeNumbers, CallNumbers}
 use Rattle.promises.proofs.FormatNumbers.{Low}

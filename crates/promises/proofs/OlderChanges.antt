@@ -18,7 +18,7 @@ use Rattle.layout.specs.Add.{addition}
 use Rattle.layout.specs.Remove.{removal}
 use Rattle.laws.specs.Contents.{replaced, without}
 use Rattle.laws.specs.Grammar.{grammar}
-use Rattle.laws.proofs.Choices.{false-true}
+use Rattle.layout.proofs.Choices.{false-true}
 use Rattle.layout.proofs.Lists.{each-map}
 use Rattle.laws.proofs.Walking.{Frames}
 use Rattle.laws.proofs.Formats.{laws}

@@ -20,7 +20,7 @@ use Rattle.layout.specs.Walk.{Raw, content, flat}
 use Rattle.layout.specs.Read.{limit, complete, codesOf}
 use Rattle.layout.specs.Write.{Outcome, refuse, padded, put, imageOf}
 use Rattle.laws.specs.Grammar.{grammar, Lawful}
-use Rattle.laws.proofs.Choices.{both}
+use Rattle.layout.proofs.Choices.{both}
 use Rattle.laws.proofs.Walking.{Frames}
 use Rattle.laws.proofs.Images.{imageFrom}
 use Rattle.laws.proofs.Writing.{image-made}

@@ -13,7 +13,7 @@ use Rattle.layout.specs.Bytes.{oneOf}
 use Rattle.layout.specs.Editions.{shape}
 use Rattle.layout.specs.Read.{limit, Read, accepted, refused, readImage}
 use Rattle.layout.specs.Calls.{entriesOf, entriesBy, entriesIn, checkedBy, checkImage, foundBy, entryAt, valueOf, valueAt, stringBy, stringAt}
-use Rattle.laws.proofs.Choices.{either}
+use Rattle.layout.proofs.Choices.{either}
 use Rattle.laws.proofs.Records.{entries-count}
 use Rattle.promises.proofs.Refusals.{refused-low, wider}
 use Rattle.promises.proofs.Entries.{held, CheckedIn, LookupIn, nth-in, LocatedIn, pool-in}

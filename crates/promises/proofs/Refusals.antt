@@ -22,7 +22,7 @@ use Rattle.layout.specs.Editions.{shape, chosen, names}
 use Rattle.layout.specs.Walk.{Raw, Content, content, labelOf, flat, Walked, done, stop, more, turn, walks, walk}
 use Rattle.layout.specs.Read.{limit, seenBefore, readerRule, fault, orElse, judge, complete, codesOf, Read, accepted, refused, readComplete, readAs, readChosen, readImage}
 use Rattle.laws.specs.Grammar.{grammar}
-use Rattle.laws.proofs.Choices.{either}
+use Rattle.layout.proofs.Choices.{either}
 use Rattle.laws.proofs.Formats.{laws}
 use Rattle.laws.proofs.Frames.{raw-size, framed-in}
 use Rattle.laws.proofs.Passes.{part-most}

@@ -19,7 +19,7 @@ use Rattle.layout.specs.Write.{put, toldMade}
 use Rattle.layout.specs.Change.{laid, laidOut, Allowed, allowed, denied, mayChange, inPlace, changeAllowed}
 use Rattle.layout.specs.Remove.{removeAsks, removal}
 use Rattle.laws.specs.Grammar.{grammar}
-use Rattle.laws.proofs.Choices.{false-true, either}
+use Rattle.layout.proofs.Choices.{false-true, either}
 use Rattle.layout.proofs.Lists.{length-map}
 use Rattle.laws.proofs.Frames.{raw-size}
 use Rattle.laws.proofs.Walking.{Frames}

@@ -12,7 +12,7 @@ use Rattle.layout.specs.Read.{codesOf, complete}
 use Rattle.layout.specs.Write.{contentCodes}
 use Rattle.layout.specs.Each.{Each, none, also}
 use Rattle.laws.specs.Grammar.{Among, first, later}
-use Rattle.laws.proofs.Choices.{false-true, both}
+use Rattle.layout.proofs.Choices.{false-true, both}
 
 -- the codes of entries that were read are those of what they say
 pub said-codes : (rs : List Raw) → contentCodes (map content rs) ≡ codesOf rs

@@ -26,7 +26,7 @@ use Rattle.layout.specs.Write.{writerRule}
 use Rattle.layout.specs.Edit.{editRule}
 use Rattle.layout.specs.Each.{Each, none, also}
 use Rattle.laws.specs.Grammar.{grammar, EntryOf, TinySays}
-use Rattle.laws.proofs.Choices.{false-true, either, both}
+use Rattle.layout.proofs.Choices.{false-true, either, both}
 use Rattle.laws.proofs.Vpd.{writer-key}
 use Rattle.laws.proofs.Years.{as-printed}
 use Rattle.promises.specs.Names.{One, Two, Named, sinceOne, sinceTwo, sinceThree, vpd01, tiny01, tiny10, tiny11, tiny60, tiny61, tiny62, vpdFE, tiny80, tiny81, onie21, onie22, onie23, onie24, onie25, onie2A, onie2B, onie2C, onie2D, onieFD}

@@ -27,7 +27,7 @@ use Rattle.layout.specs.Read.{Read, accepted, refused, readImage}
 use Rattle.layout.specs.Calls.{Told, toldChecked, checkedBy, checkImage}
 use Rattle.layout.specs.Write.{writeImage, toldMade}
 use Rattle.layout.specs.Change.{Change, changeImage}
-use Rattle.laws.proofs.Choices.{both}
+use Rattle.layout.proofs.Choices.{both}
 use Rattle.laws.proofs.Calls.{Stands, one, two, three, four, chosen-stands}
 use Rattle.promises.specs.Words.{FormatNumber, fboss, vpd, tiny, onie, KnownEdition, firstEdition, Serves, Counts, IsRefused, tellsCheck, tellsWrite}
 use Rattle.promises.specs.Numbers.{imageNumbers, writeNumbers, changeNumbers}

@@ -20,7 +20,7 @@ use Rattle.layout.specs.Change.{laidOut, Allowed, allowed, denied, Change, chan
 use Rattle.layout.specs.Edit.{edit}
 use Rattle.layout.specs.Add.{addition}
 use Rattle.layout.specs.Remove.{removal}
-use Rattle.laws.proofs.Choices.{either}
+use Rattle.layout.proofs.Choices.{either}
 use Rattle.promises.specs.Words.{IsRefused, tellsList}
 use Rattle.promises.specs.Unchanged.{Unchanged}
 

@@ -13,9 +13,9 @@ use borrow.Author.Tests.{eqb-true, eq-eqb, ne-eqb, le-leb, lt-leb}
 use Rattle.crc.specs.Crc.{check32Of}
 use Rattle.layout.specs.Bytes.{sameBytes, part, partAt}
 use Rattle.layout.specs.Onie.{fourBytes}
-use Rattle.laws.proofs.Choices.{refuted, both}
+use Rattle.layout.proofs.Choices.{refuted, both}
 use Rattle.laws.proofs.Frames.{part-between}
-use Rattle.laws.proofs.Images.{same-refl, same-true}
+use Rattle.layout.proofs.Lists.{same-refl, same-true}
 use Rattle.blocks.specs.declared.Offsets.{Offsets}
 use Rattle.blocks.specs.declared.Block.{Block}
 use Rattle.blocks.specs.declared.Said.{Said}

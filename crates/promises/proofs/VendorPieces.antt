@@ -10,8 +10,8 @@ use borrow.Author.Tests.{eqb-true}
 use Rattle.layout.specs.Bytes.{sameBytes, part, refusal}
 use Rattle.layout.specs.Walk.{Content}
 use Rattle.layout.specs.Read.{limit, Read}
-use Rattle.laws.proofs.Choices.{false-true, refuted, both}
-use Rattle.laws.proofs.Images.{same-true}
+use Rattle.layout.proofs.Choices.{false-true, refuted, both}
+use Rattle.layout.proofs.Lists.{same-true}
 use Rattle.blocks.specs.Payload.{prefix, matches, matching, joined, payloadSays}
 use Rattle.blocks.specs.Vendor.{Taking, untaken, taking, takeMatching, takeRead, readVendor}
 use Rattle.promises.specs.Words.{Reads}

@@ -15,7 +15,7 @@ use Rattle.layout.specs.Editions.{chosen}
 use Rattle.layout.specs.Walk.{Content, content}
 use Rattle.layout.specs.Read.{limit, Read, accepted, refused, readImage}
 use Rattle.layout.specs.Write.{Outcome, refuse, putBytes, toldMade}
-use Rattle.laws.proofs.Choices.{either}
+use Rattle.layout.proofs.Choices.{either}
 use Rattle.blocks.specs.declared.Offsets.{Offsets}
 use Rattle.blocks.specs.declared.Block.{Block}
 use Rattle.blocks.specs.declared.Said.{Said}

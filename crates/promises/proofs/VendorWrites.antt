@@ -20,7 +20,7 @@ use Rattle.layout.specs.Read.{limit}
 use Rattle.layout.specs.Calls.{Told}
 use Rattle.layout.specs.Write.{Outcome, refuse, putBytes, toldMade}
 use Rattle.layout.specs.Each.{Each, none, also}
-use Rattle.laws.proofs.Choices.{refuted, both}
+use Rattle.layout.proofs.Choices.{refuted, both}
 use Rattle.blocks.specs.declared.Offsets.{Offsets}
 use Rattle.blocks.specs.Offset.{signedByte, offsetBytes}
 use Rattle.blocks.specs.Payload.{front, payloadOf, cutInto, sum, writable}

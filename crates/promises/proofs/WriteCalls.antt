@@ -25,7 +25,7 @@ use Rattle.layout.specs.Edit.{editRule, editAsks, edit, editEntry}
 use Rattle.layout.specs.Add.{mayAdd, addition, addField}
 use Rattle.layout.specs.Remove.{removeAsks, removal, removeEntry}
 use Rattle.laws.specs.Grammar.{grammar}
-use Rattle.laws.proofs.Choices.{either, both, neither}
+use Rattle.layout.proofs.Choices.{either, both, neither}
 use Rattle.laws.proofs.Formats.{laws}
 use Rattle.laws.proofs.Frames.{raw-size}
 use Rattle.laws.proofs.Walking.{Frames}

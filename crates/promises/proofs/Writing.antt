@@ -23,9 +23,8 @@ use Rattle.layout.specs.Walk.{Content, labelOf}
 use Rattle.layout.specs.Read.{limit, same, complete}
 use Rattle.layout.specs.Write.{inside, partsInside, judgeFields, contentsOf, contentCodes, entriesBytes, imageOf, put, writeAs, writeImage}
 use Rattle.layout.specs.Each.{none}
-use Rattle.laws.proofs.Choices.{false-true, either, both}
-use Rattle.layout.proofs.Lists.{each-map, each-every}
-use Rattle.laws.proofs.Images.{same-refl, same-true}
+use Rattle.layout.proofs.Choices.{false-true, either, both}
+use Rattle.layout.proofs.Lists.{each-map, each-every, same-refl, same-true}
 use Rattle.laws.proofs.Writing.{Single, Follow, Fine, judged-fine, fine-judged, fields-fine}
 use Rattle.laws.proofs.Formats.{laws}
 use Rattle.laws.proofs.Calls.{chosen-stands}

@@ -3,7 +3,7 @@
 -- Assumes nothing.
 use Prim.Native.Nat.{ℕ, _+_}
 use mathlib.Core.List.{List, [], _∷_, _++_}
-use mathlib.Core.Bool.{Bool, true, false, _||_}
+use mathlib.Core.Bool.{_||_}
 use lib.ListN.{length}
 use lib.Dec.{ltb, eqb}
 use Rattle.layout.specs.declared.Refusal.{Refusal}
@@ -82,7 +82,7 @@ above n (b ∷ bs) = if (ltb n (b .number)) (λ _. b ∷ bs) (λ _. above n bs)
 
 -- the boards with these in the place of number n: one that is added or replaces the one that was there, or none
 abbrev pub changed : ℕ → List Board → List Board → List Board
-changed n new bs = below n bs ++ new ++ above n bs
+changed n new bs = below n bs ++ (new ++ above n bs)
 
 -- what the call asks of the board's number; the stored bodies' own, in the file; the new body's own, in it
 abbrev pub changeAsks : (ℕ → List Board → Allowed) → ℕ → ℕ → ℕ → List Board → List Board → Allowed

@@ -5,7 +5,7 @@ use Prim.Native.Nat.{ℕ, zero, suc, _+_, _*_, _/_, _%_}
 use mathlib.Core.List.{List, [], _∷_, _++_}
 use mathlib.Core.Bool.{Bool, true, _&&_}
 use lib.ListN.{length, getD, take, drop}
-use lib.Dec.{ltb, leb, eqb}
+use lib.Dec.{leb, eqb}
 use Rattle.layout.specs.Bytes.{if, sameBytes, part, highFirst}
 
 pub record Board : Type 0 where
@@ -30,11 +30,11 @@ four n = n / 16777216 % 256 ∷ n / 65536 % 256 ∷ n / 256 % 256 ∷ n % 256 �
 
 -- the head of a file of this form with so many boards: 52h 4Dh, the form number, a zero, the board count, two zeros
 unfoldable pub head : ℕ → ℕ → List ℕ
-head form n = 0x52 ∷ 0x4D ∷ one form ++ (0 ∷ two n) ++ (0 ∷ 0 ∷ [])
+head form n = (0x52 ∷ 0x4D ∷ one form) ++ ((0 ∷ two n) ++ (0 ∷ 0 ∷ []))
 
 -- the row of a board: board number, format, a zero, body length
 unfoldable pub rowOf : Board → List ℕ
-rowOf b = four (b .number) ++ one (b .format) ++ (0 ∷ two (length (b .body)))
+rowOf b = four (b .number) ++ (one (b .format) ++ (0 ∷ two (length (b .body))))
 
 unfoldable pub rowsOf : List Board → List ℕ
 rowsOf [] = []
@@ -46,7 +46,7 @@ bodiesOf (b ∷ bs) = b .body ++ bodiesOf bs
 
 -- head, a row for each board, and the bodies in that order without gaps
 unfoldable pub fileOf : ℕ → List Board → List ℕ
-fileOf form bs = head form (length bs) ++ rowsOf bs ++ bodiesOf bs
+fileOf form bs = head form (length bs) ++ (rowsOf bs ++ bodiesOf bs)
 
 -- ---- the boards of a file
 

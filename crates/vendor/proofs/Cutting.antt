@@ -12,7 +12,7 @@ use lib.Dec.{leb}
 use borrow.Author.Tests.{le-leb, lt-leb, eq-eqb, ne-eqb}
 use Rattle.layout.specs.Bytes.{if, all}
 use Rattle.layout.specs.Write.{word, items}
-use Rattle.laws.proofs.Choices.{false-true}
+use Rattle.layout.proofs.Choices.{false-true}
 use Rattle.fields.proofs.Lists.{items-none, items-more}
 use Rattle.output.specs.Placing.{over, copied}
 use Rattle.output.proofs.Overlay.{length-over, over-nil, over-over, copied-over}

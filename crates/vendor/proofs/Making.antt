@@ -15,7 +15,7 @@ use Rattle.layout.specs.declared.Made.the-variants.{Wrote}
 use Rattle.layout.specs.Bytes.{if, all, part, refusal}
 use Rattle.layout.specs.Read.{limit}
 use Rattle.layout.specs.Write.{Outcome, refuse, putBytes}
-use Rattle.laws.proofs.Choices.{both}
+use Rattle.layout.proofs.Choices.{both}
 use Rattle.output.specs.Placing.{copied}
 use Rattle.blocks.specs.declared.Offsets.{Offsets}
 use Rattle.blocks.specs.Payload.{front, payloadOf, cutInto, sum, writable}

@@ -19,7 +19,7 @@ use Rattle.layout.specs.Walk.{Content, content, done}
 use Rattle.layout.specs.Read.{Read, readImage}
 use Rattle.laws.specs.Passes.{walked, IsDone, rawsIn}
 use Rattle.laws.proofs.Calls.{is-format}
-use Rattle.laws.proofs.Choices.{false-true}
+use Rattle.layout.proofs.Choices.{false-true}
 use Rattle.laws.proofs.Onie.{onie-room}
 use Rattle.output.specs.Placing.{over, copied}
 use Rattle.output.proofs.Overlay.{copied-over, part-over}
