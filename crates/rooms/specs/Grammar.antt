@@ -1,4 +1,5 @@
 -- The published rules of a machine-room file as a grammar: a list of bytes is the file of a list of boards, or it is not (02, "Machine-room file"). Nothing here reads.
+-- That a file has at most 65,536 bytes is asked by the calls (2).
 -- Assumes nothing.
 use Prim.Native.Nat.{ℕ, _+_, _≤_, _<_}
 use mathlib.Core.Path.{_≡_}
