@@ -73,7 +73,7 @@ told-number t lt = go (eqb (t .number) 0) refl
     go true e = let z = eqb-true (t .number) 0 e in rw e (omega arith)
     go false e = rw e (omega arith)
 
-pub gives-one : (numbers : List ℕ) (t : Told) → all (between 1 20) numbers ≡ true → Gives numbers t → OneOf numbers (packed t)
+pub gives-one : (numbers : List ℕ) (t : Told) → all (between 1 23) numbers ≡ true → Gives numbers t → OneOf numbers (packed t)
 unfolding oneOf
 gives-one numbers t table (taken {n} {x} {es}) = rw (packed-taken t refl)
 gives-one numbers t table (refused {n} {p} h) =
@@ -172,7 +172,7 @@ walk-from-c f e low high more fits =
 
 -- ---- what C sees taken is taken
 
-gives-zero : (numbers : List ℕ) (t : Told) → all (between 1 20) numbers ≡ true → Gives numbers t → numberOf (packed t) ≡ 0 → t .number ≡ 0
+gives-zero : (numbers : List ℕ) (t : Told) → all (between 1 23) numbers ≡ true → Gives numbers t → numberOf (packed t) ≡ 0 → t .number ≡ 0
 gives-zero numbers t table taken z = refl
 gives-zero numbers t table (refused {n} {p} h) z = let small = tabled numbers n table h in sym (told-number t (omega arith)) ∙ z
 
@@ -191,7 +191,7 @@ made-counts numbers most x n q l =
     let l′ : MadeLow numbers most (Wrote n) = rw q at l in
     rw q (whole-told n (partAt 0 0) [] (omega arith) (omega arith) .count refl)
 
-made-taken : (numbers : List ℕ) (most : ℕ) → all (between 1 20) numbers ≡ true → (x : Made) → MadeLow numbers most x → numberOf (packed (toldMade x)) ≡ 0 →
+made-taken : (numbers : List ℕ) (most : ℕ) → all (between 1 23) numbers ≡ true → (x : Made) → MadeLow numbers most x → numberOf (packed (toldMade x)) ≡ 0 →
     Counts (toldMade x) (countOf (packed (toldMade x)))
 made-taken numbers most table x low z =
     let w = made-some numbers most table x low (gives-zero numbers (toldMade x) table (made-gives numbers most x low) z) in

@@ -28,8 +28,8 @@ whole t n p c x = go (eqb (t .number) 0) refl
         let some = eqb-false (t .number) 0 e in
         record { number = rw e (omega arith); place = λ _. rw e (omega arith); count = λ z. absurd (some z); part = λ z. absurd (some z) }
 
--- a refusal by one of the numbers 1 to 20, at a place that is not too far
-pub whole-refusal : (numbers : List ℕ) (most : ℕ) (r : Refusal) → all (between 1 20) numbers ≡ true → most < 576460752303423488 →
+-- a refusal by one of the numbers 1 to 23, at a place that is not too far
+pub whole-refusal : (numbers : List ℕ) (most : ℕ) (r : Refusal) → all (between 1 23) numbers ≡ true → most < 576460752303423488 →
     Low numbers most (r .number) (r .place .0) → Whole (toldRefusal r)
 whole-refusal numbers most r table lt l =
     let n = tabled numbers (r .number) table (l .number) in

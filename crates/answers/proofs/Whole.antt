@@ -33,7 +33,7 @@ use Rattle.answers.proofs.Packing.{whole-refusal, whole-told}
 
 -- ---- by what a call answers
 
-refusal-whole : (numbers : List ℕ) (r : Refusal) → all (between 1 20) numbers ≡ true → Low numbers farthest (r .number) (r .place .0) → Whole (toldRefusal r)
+refusal-whole : (numbers : List ℕ) (r : Refusal) → all (between 1 23) numbers ≡ true → Low numbers farthest (r .number) (r .place .0) → Whole (toldRefusal r)
 refusal-whole numbers r table l = whole-refusal numbers farthest r table (omega arith) l
 
 checked-whole : (x : Checked) → CheckedIn x → Whole (toldChecked x)
@@ -46,11 +46,11 @@ unfolding all
 lookup-whole (Found x) l = whole-told 1 (partAt 0 0) _ (omega arith) (omega arith)
 lookup-whole (Missing r) l = refusal-whole (13 ∷ imageNumbers) r refl l
 
-located-whole : (number : ℕ) (x : Located) → all (between 1 20) (number ∷ imageNumbers) ≡ true → LocatedIn number x → Whole (toldLocated x)
+located-whole : (number : ℕ) (x : Located) → all (between 1 23) (number ∷ imageNumbers) ≡ true → LocatedIn number x → Whole (toldLocated x)
 located-whole number (At x) table l = whole-told (x .len) x [] (omega arith) (omega arith)
 located-whole number (Nowhere r) table l = refusal-whole (number ∷ imageNumbers) r table l
 
-pub made-whole : (numbers : List ℕ) (most : ℕ) (x : Made) → all (between 1 20) numbers ≡ true → most < 576460752303423488 → MadeLow numbers most x → Whole (toldMade x)
+pub made-whole : (numbers : List ℕ) (most : ℕ) (x : Made) → all (between 1 23) numbers ≡ true → most < 576460752303423488 → MadeLow numbers most x → Whole (toldMade x)
 made-whole numbers most (Wrote n) table lt l = whole-told n (partAt 0 0) [] (omega arith) (omega arith)
 made-whole numbers most (Unwritten r) table lt l = whole-refusal numbers most r table lt l
 

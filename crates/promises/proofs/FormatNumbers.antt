@@ -46,9 +46,9 @@ every t (x ∷ xs) n a h = let b = both (t x) (all t xs) a in go (eqb n x) refl 
     go true e h i rest = rw (eqb-true n x e) i
     go false e h i rest = rest h
 
--- a number of a list that has none but 1 to 20 is one of those: never the 0 of an answer that is not refused
-pub tabled : (numbers : List ℕ) (n : ℕ) → all (between 1 20) numbers ≡ true → oneOf numbers n ≡ true → (1 ≤ n) × (n ≤ 20)
-tabled numbers n a h = let c = both (leb 1 n) (leb n 20) (every (between 1 20) numbers n a h) in (leb-true 1 n (c .0), leb-true n 20 (c .1))
+-- a number of a list that has none but 1 to 23 is one of those: never the 0 of an answer that is not refused
+pub tabled : (numbers : List ℕ) (n : ℕ) → all (between 1 23) numbers ≡ true → oneOf numbers n ≡ true → (1 ≤ n) × (n ≤ 23)
+tabled numbers n a h = let c = both (leb 1 n) (leb n 23) (every (between 1 23) numbers n a h) in (leb-true 1 n (c .0), leb-true n 23 (c .1))
 
 abbrev HeadNumber : Headed → Type 0
 HeadNumber (Opens h) = Unit {0}

@@ -14,6 +14,7 @@ pub mod Asked
 pub mod Unchanged
 pub mod RecordKinds
 pub mod PublishedRules
+pub mod Storing
 pub mod Older
 pub mod OlderReads
 pub mod Output

@@ -106,7 +106,7 @@ check-refused f e image h = go (readImage f e image) refl h
 
 -- ---- calls that make an image
 
-module _ (numbers : List ℕ) (most : ℕ) (table : all (between 1 20) numbers ≡ true) where
+module _ (numbers : List ℕ) (most : ℕ) (table : all (between 1 23) numbers ≡ true) where
   pub made-some : (x : Made) → MadeLow numbers most x → toldMade x .number ≡ 0 → (n : ℕ) × (x ≡ Wrote n)
   made-some (Wrote n) l z = (n, refl)
   made-some (Unwritten r) l z = absurd (omega (arith, tabled numbers (r .number) table (l .number)))

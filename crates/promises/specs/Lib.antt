@@ -2,6 +2,7 @@ pub mod Words
 pub mod Names
 pub mod Rules
 pub mod Asked
+pub mod Storing
 pub mod Numbers
 pub mod Unchanged
 pub mod PublishedRules

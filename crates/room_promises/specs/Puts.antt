@@ -2,7 +2,7 @@
 -- Assumes nothing.
 use Prim.Native.Nat.{ℕ, _≤_, _<_}
 use mathlib.Core.Path.{_≡_}
-use mathlib.Core.List.{List, [], _∷_}
+use mathlib.Core.List.{List, _∷_}
 use lib.ListN.{length, take, drop}
 use Rattle.layout.specs.Each.{Each}
 use Rattle.rooms.specs.File.{Board}
@@ -19,6 +19,7 @@ pub record Put (x : RoomChange) (form e : ℕ) (file out : List ℕ) (m : ℕ) :
   pub after : RoomFile form e (take m (x .call form e file out .memory)) latter
   pub stays : drop m (x .call form e file out .memory) ≡ drop m out
   pub fits : m ≤ length out
+  pub most : m ≤ 65536
 
 pub record RoomsPut : Type 1 where
   -- board numbers are numbers of 32 bits

@@ -6,14 +6,14 @@ use mathlib.Core.List.{List, [], _∷_, _++_, append-assoc, map}
 use mathlib.Core.Bool.{Bool, true, false, _&&_}
 use native.Mathlib.Omega.{arith}
 use lib.ListN.{length, getD, take, drop, length-append, length-drop, take-append-drop}
-use lib.Seq.{drop-cons, take-add, take-all, take-at, drop-at, drop-drop, getD-drop, drop-append-add, length-take-le}
+use lib.Seq.{drop-cons, take-add, take-at, drop-at, drop-drop, getD-drop, length-take-le}
 use lib.Dec.{leb, eqb}
 use borrow.Author.Tests.{leb-true, eqb-true, le-leb, eq-eqb}
 use Rattle.layout.specs.Bytes.{if, sameBytes, part, highFirst}
 use Rattle.layout.specs.Each.{Each, none, also}
-use Rattle.layout.proofs.Choices.{false-true, both}
-use Rattle.layout.proofs.Lists.{same-refl, same-true}
-use Rattle.rooms.specs.File.{Board, board, one, two, four, head, rowOf, rowsOf, bodiesOf, fileOf, knownForm, rowsAt, bodiesAt, countIn, headed, Row, rowIn, rowsIn, rightFrom, sizes, boardsOf, Room, holds, wrong, readRows, readRoom}
+use Rattle.layout.proofs.Choices.{both}
+use Rattle.layout.proofs.Lists.{joined-append, same-refl, same-true}
+use Rattle.rooms.specs.File.{Board, board, two, four, head, rowOf, rowsOf, bodiesOf, fileOf, knownForm, rowsAt, bodiesAt, countIn, headed, Row, rowIn, rowsIn, rightFrom, sizes, boardsOf, Room, holds, wrong, readRows, readRoom}
 use Rattle.rooms.specs.Grammar.{Rising, none as noneRises, next, Storable, Holdable, IsFile}
 
 -- ---- numbers in bytes
@@ -110,22 +110,31 @@ row-is s (eight a b c d f z h l t) by e fits =
 
 -- ---- the rows and the bodies
 
--- what rows come to whose bodies are all of the bytes s
-record Are (n low : ℕ) (t s : List ℕ) (bs : List Board) : Type 0 where
-  rows : rowsOf bs ≡ take (8 * n) t
-  bodies : bodiesOf bs ≡ s
-  rising : Rising low bs
-  storable : Each Storable bs
-  count : length bs ≡ n
-
 empty : (s : List ℕ) → 0 ≡ length s → [] ≡ s
 empty [] e = refl
 empty (x ∷ xs) e = absurd (omega (arith, e))
 
-rows-are : (n low : ℕ) (t s : List ℕ) → Bytes t → 8 * n ≤ length t → rightFrom low (rowsIn n t) ≡ true → sizes (rowsIn n t) ≡ length s →
-    Are n low t s (boardsOf (rowsIn n t) s)
-unfolding rowsIn rightFrom sizes boardsOf rowsOf bodiesOf
-rows-are zero low t s by le right sum = record { rows = refl; bodies = empty s sum; rising = noneRises; storable = none; count = refl }
+-- as many boards as rows, and their bodies are all of the bytes that the rows sum to
+boards-bodies : (rs : List Row) (s : List ℕ) → sizes rs ≡ length s → bodiesOf (boardsOf rs s) ≡ s
+unfolding sizes boardsOf bodiesOf
+boards-bodies [] s sum = empty s sum
+boards-bodies (r ∷ rs) s sum =
+    rw (boards-bodies rs (drop (r .size) s) (omega (arith, sum, length-drop (r .size) s))) (take-append-drop (r .size) s)
+
+boards-count : (n : ℕ) (t s : List ℕ) → length (boardsOf (rowsIn n t) s) ≡ n
+unfolding rowsIn boardsOf
+boards-count zero t s = refl
+boards-count (suc n) t s = ap suc (boards-count n (drop 8 t) (drop (rowIn t .size) s))
+
+-- what the boards of right rows are
+record Are (n low : ℕ) (t : List ℕ) (bs : List Board) : Type 0 where
+  rows : rowsOf bs ≡ take (8 * n) t
+  rising : Rising low bs
+  storable : Each Storable bs
+
+rows-are : (n low : ℕ) (t s : List ℕ) → Bytes t → 8 * n ≤ length t → rightFrom low (rowsIn n t) ≡ true → sizes (rowsIn n t) ≡ length s → Are n low t (boardsOf (rowsIn n t) s)
+unfolding rowsIn rightFrom sizes boardsOf rowsOf
+rows-are zero low t s by le right sum = record { rows = refl; rising = noneRises; storable = none }
 rows-are (suc n) low t s by le right sum =
     let r = rowIn t in
     let w = both (leb low (r .number) && eqb (r .zero) 0 && leb 1 (r .size)) (rightFrom (r .number + 1) (rowsIn n (drop 8 t))) right in
@@ -142,10 +151,8 @@ rows-are (suc n) low t s by le right sum =
     record { number = is .number; format = is .format; least = rw long′ (leb-true 1 (r .size) (x .1)); most = rw long′ (is .size) } in
     record {
       rows = rw (is .row, rest .rows, more) (sym (take-add 8 (8 * n) t));
-      bodies = rw (rest .bodies) (take-append-drop (r .size) s);
       rising = next (leb-true low (r .number) (y .0)) (rest .rising);
       storable = also fine (rest .storable);
-      count = ap suc (rest .count);
     }
 
 -- ---- the file
@@ -169,25 +176,52 @@ headed-begins form file by le e =
     go : {t : List ℕ} → Eight t → Bytes t → countIn t ≤ 65535
     go (eight a b c d f z h l t) by = two-below f z (by 4) (by 5)
 
+-- what is known of a file that is read as boards
+record Reads (form : ℕ) (file : List ℕ) (bs : List Board) : Type 0 where
+  long : bodiesAt form (countIn file) ≤ length file
+  begins : headed form file ≡ true
+  right : rightFrom 0 (rowsIn (countIn file) (drop (rowsAt form) file)) ≡ true
+  sum : sizes (rowsIn (countIn file) (drop (rowsAt form) file)) ≡ length (drop (bodiesAt form (countIn file)) file)
+  is : boardsOf (rowsIn (countIn file) (drop (rowsAt form) file)) (drop (bodiesAt form (countIn file)) file) ≡ bs
+
+reads : (form : ℕ) (file : List ℕ) (bs : List Board) → readRoom form file ≡ holds bs → Reads form file bs
+unfolding readRoom
+reads form file bs q =
+    let n = countIn file in
+    let rs = rowsIn n (drop (rowsAt form) file) in
+    let s = drop (bodiesAt form n) file in
+    let x = holds-only (headed form file && leb (bodiesAt form n) (length file)) (readRows rs s) bs q in
+    let y = both (headed form file) (leb (bodiesAt form n) (length file)) (x .0) in
+    let w = holds-only (rightFrom 0 rs && eqb (sizes rs) (length s)) (holds (boardsOf rs s)) bs (x .1) in
+    let v = both (rightFrom 0 rs) (eqb (sizes rs) (length s)) (w .0) in
+    record { long = leb-true (bodiesAt form n) (length file) (y .1); begins = y .0; right = v .0; sum = eqb-true (sizes rs) (length s) (v .1); is = cc }
+
+-- a file is as long as its head, its rows and its bodies
+pub read-length : (form : ℕ) (file : List ℕ) (bs : List Board) → readRoom form file ≡ holds bs → length file ≡ bodiesAt form (length bs) + length (bodiesOf bs)
+read-length form file bs q =
+    let n = countIn file in
+    let rs = rowsIn n (drop (rowsAt form) file) in
+    let s = drop (bodiesAt form n) file in
+    let x = reads form file bs q in
+    let count : length bs ≡ n = ap length (sym (x .is)) ∙ boards-count n (drop (rowsAt form) file) s in
+    let bodies : length (bodiesOf bs) ≡ length s = ap (λ (l : List Board). length (bodiesOf l)) (sym (x .is)) ∙ ap length (boards-bodies rs s (x .sum)) in
+    omega (arith, x .long, count, bodies, length-drop (bodiesAt form n) file)
+
 pub read-is : (form : ℕ) (file : List ℕ) (bs : List Board) → Bytes file → readRoom form file ≡ holds bs → IsFile form file bs
-unfolding readRoom fileOf
+unfolding fileOf
 read-is form file bs by q =
     let n = countIn file in
     let rs = rowsIn n (drop 8 file) in
     let s = drop (8 + 8 * n) file in
-    let x = holds-only (headed form file && leb (8 + 8 * n) (length file)) (readRows rs s) bs q in
-    let y = both (headed form file) (leb (8 + 8 * n) (length file)) (x .0) in
-    let le : 8 + 8 * n ≤ length file = leb-true (8 + 8 * n) (length file) (y .1) in
-    let begins = headed-begins form file by (omega (arith, le)) (y .0) in
-    let w = holds-only (rightFrom 0 rs && eqb (sizes rs) (length s)) (holds (boardsOf rs s)) bs (x .1) in
-    let v = both (rightFrom 0 rs) (eqb (sizes rs) (length s)) (w .0) in
-    let are = rows-are n 0 (drop 8 file) s (bytes-rest 8 file by) (omega (arith, le, length-drop 8 file)) (v .0) (eqb-true (sizes rs) (length s) (v .1)) in
-    let is : boardsOf rs s ≡ bs = cc in
-    let are′ : Are n 0 (drop 8 file) s bs = subst (Are n 0 (drop 8 file) s) is are in
+    let x = reads form file bs q in
+    let begins = headed-begins form file by (omega (arith, x .long)) (x .begins) in
+    let are = subst (Are n 0 (drop 8 file)) (x .is) (rows-are n 0 (drop 8 file) s (bytes-rest 8 file by) (omega (arith, x .long, length-drop 8 file)) (x .right) (x .sum)) in
+    let count : length bs ≡ n = ap length (sym (x .is)) ∙ boards-count n (drop 8 file) s in
+    let bodies : bodiesOf bs ≡ s = ap bodiesOf (sym (x .is)) ∙ boards-bodies rs s (x .sum) in
     let rest : drop 8 file ≡ take (8 * n) (drop 8 file) ++ s = rw (← drop-drop (8 * n) 8 file) (sym (take-append-drop (8 * n) (drop 8 file))) in
     record {
-      holdable = record { form-is = begins .form-is; count = rw (are′ .count) (begins .count); rising = are′ .rising; storable = are′ .storable };
-      is = rw (are′ .count, are′ .rows, are′ .bodies, ← begins .front, ← rest) (sym (take-append-drop 8 file));
+      holdable = record { form-is = begins .form-is; count = rw count (begins .count); rising = are .rising; storable = are .storable };
+      is = rw (count, are .rows, bodies, ← begins .front, ← rest) (sym (take-append-drop 8 file));
     }
 
 -- ---- and back
@@ -235,12 +269,12 @@ stored-boards (b ∷ bs) =
     let n = length (b .body) in
     rw (take-at (b .body) (bodiesOf bs) n refl, drop-at (b .body) (bodiesOf bs) n refl) (ap (λ (x : List Board). b ∷ x) (stored-boards bs))
 
-rows-length : (bs : List Board) → length (rowsOf bs) ≡ 8 * length bs
+pub rows-length : (bs : List Board) → length (rowsOf bs) ≡ 8 * length bs
 unfolding rowsOf
 rows-length [] = refl
 rows-length (b ∷ bs) = omega (arith, length-append (rowOf b) (rowsOf bs), row-length b, rows-length bs)
 
-head-length : (form n : ℕ) → length (head form n) ≡ 8
+pub head-length : (form n : ℕ) → length (head form n) ≡ 8
 unfolding head
 head-length form n = refl
 
@@ -252,19 +286,39 @@ head-headed : (form n : ℕ) (t : List ℕ) → form ≡ 1 → n ≤ 65535 → h
 unfolding headed
 head-headed form n t e le = rw (eq-eqb form 1 e, head-count form n t le, take-at (head form n) t 8 (head-length form n)) (same-refl (head form n))
 
+file-rest : (form : ℕ) (bs : List Board) → drop 8 (fileOf form bs) ≡ rowsOf bs ++ bodiesOf bs
+unfolding fileOf
+file-rest form bs = drop-at (head form (length bs)) (rowsOf bs ++ bodiesOf bs) 8 (head-length form (length bs))
+
+pub file-bodies : (form : ℕ) (bs : List Board) → drop (bodiesAt form (length bs)) (fileOf form bs) ≡ bodiesOf bs
+file-bodies form bs =
+    let n = length bs in
+    sym (drop-drop (8 * n) 8 (fileOf form bs)) ∙ ap (drop (8 * n)) (file-rest form bs) ∙ drop-at (rowsOf bs) (bodiesOf bs) (8 * n) (rows-length bs)
+
+pub file-length : (form : ℕ) (bs : List Board) → length (fileOf form bs) ≡ bodiesAt form (length bs) + length (bodiesOf bs)
+unfolding fileOf
+file-length form bs =
+    omega (arith, length-append (head form (length bs)) (rowsOf bs ++ bodiesOf bs), length-append (rowsOf bs) (bodiesOf bs), head-length form (length bs), rows-length bs)
+
 pub is-read : (form : ℕ) (bs : List Board) → Holdable form bs → readRoom form (fileOf form bs) ≡ holds bs
 unfolding readRoom fileOf
 is-read form bs h =
     let n = length bs in
-    let front = head form n in
     let rest = rowsOf bs ++ bodiesOf bs in
-    let count : countIn (front ++ rest) ≡ n = head-count form n rest (h .count) in
-    let on : drop 8 (front ++ rest) ≡ rest = drop-at front rest 8 (head-length form n) in
-    let far : drop (8 + 8 * n) (front ++ rest) ≡ bodiesOf bs =
-    sym (drop-drop (8 * n) 8 (front ++ rest)) ∙ ap (drop (8 * n)) on ∙ drop-at (rowsOf bs) (bodiesOf bs) (8 * n) (rows-length bs) in
-    let long : leb (8 + 8 * n) (length (front ++ rest)) ≡ true =
-    le-leb (8 + 8 * n) (length (front ++ rest))
-    (omega (arith, length-append front rest, head-length form n, length-append (rowsOf bs) (bodiesOf bs), rows-length bs)) in
+    let long : leb (8 + 8 * n) (length (fileOf form bs)) ≡ true = le-leb (8 + 8 * n) (length (fileOf form bs)) (omega (arith, file-length form bs)) in
     let sum : eqb (sizes (map stored bs)) (length (bodiesOf bs)) ≡ true = eq-eqb (sizes (map stored bs)) (length (bodiesOf bs)) (stored-sizes bs) in
-    rw (count, head-headed form n rest (h .form-is) (h .count), long, on, far, rows-stored bs (bodiesOf bs) (h .storable), stored-right 0 bs (h .rising) (h .storable), sum)
+    rw (
+      head-count form n rest (h .count),
+      head-headed form n rest (h .form-is) (h .count),
+      long,
+      file-rest form bs,
+      file-bodies form bs,
+      rows-stored bs (bodiesOf bs) (h .storable),
+      stored-right 0 bs (h .rising) (h .storable),
+      sum,
+    )
     (ap holds (stored-boards bs))
+
+pub bodies-append : (bs cs : List Board) → bodiesOf (bs ++ cs) ≡ bodiesOf bs ++ bodiesOf cs
+unfolding bodiesOf
+bodies-append bs cs = joined-append bodiesOf (λ b. b .body) refl (λ b more. refl) bs cs
