@@ -1,0 +1,1 @@
+// No code: proofs/ has the worked cases of the machine-room file.
