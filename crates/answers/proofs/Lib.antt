@@ -7,3 +7,4 @@ pub mod ReadBack
 pub mod FramesBack
 pub mod FromC
 pub mod Vendor
+pub mod RoomFiles

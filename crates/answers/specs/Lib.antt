@@ -3,3 +3,4 @@ pub mod Records
 pub mod Lent
 pub mod FromC
 pub mod Vendor
+pub mod Rooms

@@ -21,6 +21,7 @@ use Rattle.blocks.specs.declared.Vended.{Vended}
 use Rattle.blocks.specs.declared.Vended.the-variants.{Tells, Unread}
 use Rattle.blocks.specs.Offset.{offsetsIn}
 use Rattle.blocks.specs.Vendor.{readVendor, toldVended, piecesIn, writeVendor}
+use Rattle.rooms.specs.Calls.{addBoard, replaceBoard, removeBoard, fetchBoard}
 use Rattle.records.specs.Packed.{packed}
 use Rattle.records.specs.Words.{wordsBytes, recordBytes, recordsBytes, blockBytes}
 
@@ -172,3 +173,17 @@ offsetsOf n =
 
 abbrev pub vendorWriteCall : ℕ → ℕ → List ℕ → ℕ → List ℕ → List ℕ → Given
 vendorWriteCall f e serial offsets pieces out = made (writeVendor f e serial (offsetsOf offsets) (piecesIn pieces) out)
+
+-- ---- machine-room files
+
+abbrev pub roomAddCall : ℕ → ℕ → List ℕ → ℕ → ℕ → List ℕ → List ℕ → Given
+roomAddCall form e file n f body out = made (addBoard form e file n f body out)
+
+abbrev pub roomReplaceCall : ℕ → ℕ → List ℕ → ℕ → ℕ → List ℕ → List ℕ → Given
+roomReplaceCall form e file n f body out = made (replaceBoard form e file n f body out)
+
+abbrev pub roomRemoveCall : ℕ → ℕ → List ℕ → ℕ → List ℕ → Given
+roomRemoveCall form e file n out = made (removeBoard form e file n out)
+
+abbrev pub roomFetchCall : ℕ → ℕ → List ℕ → ℕ → ℕ
+roomFetchCall form e file n = packed (toldLocated (fetchBoard form e file n))

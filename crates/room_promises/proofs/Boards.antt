@@ -11,11 +11,11 @@ use Rattle.layout.specs.Bytes.{if, refusal}
 use Rattle.layout.specs.Change.{Allowed, allowed, denied}
 use Rattle.layout.specs.Each.{Each, none, also}
 use Rattle.layout.proofs.Choices.{either}
-use Rattle.layout.proofs.Lists.{each-first, each-right, each-append}
+use Rattle.layout.proofs.Lists.{each-first, each-rest, each-left, each-right, each-append}
 use Rattle.rooms.specs.File.{Board}
 use Rattle.rooms.specs.Grammar.{Rising, none as noneRises, next}
 use Rattle.rooms.specs.Calls.{present, absent, below, above, changed}
-use Rattle.room_promises.specs.Words.{Present, stands, Absent, Added, added, Replaced, replaced, Removed, removed}
+use Rattle.room_promises.specs.Words.{Present, stands, Absent, Added, added, Replaced, replaced, Removed, removed, RoomChange, Changes, add, replace, remove}
 
 -- ---- what a call asks of its board's number
 
@@ -182,3 +182,20 @@ module _ {P : Board → Type 0} (n : ℕ) where
 
   pub each-changed : (new bs : List Board) → Each P new → Each P bs → Each P (changed n new bs)
   each-changed new bs brought ps = each-append (below n bs) (new ++ above n bs) (each-below bs ps) (each-append new (above n bs) brought (each-above bs ps))
+
+-- what holds of each board of a list and of those that are brought holds of each board of the list that a call makes of it
+module _ {P : Board → Type 0} where
+  each-added : {b : Board} {former latter : List Board} → Added b former latter → Each P (b ∷ []) → Each P former → Each P latter
+  each-added {b} (added before after) (also p none) ps = each-append before (b ∷ after) (each-left before after ps) (also p (each-right before after ps))
+
+  each-replaced : {b : Board} {former latter : List Board} → Replaced b former latter → Each P (b ∷ []) → Each P former → Each P latter
+  each-replaced {b} (replaced before old after same) (also p none) ps =
+      each-append before (b ∷ after) (each-left before (old ∷ after) ps) (also p (each-rest (each-right before (old ∷ after) ps)))
+
+  each-removed : {n : ℕ} {former latter : List Board} → Removed n former latter → Each P former → Each P latter
+  each-removed (removed before old after same) ps = each-append before after (each-left before (old ∷ after) ps) (each-rest (each-right before (old ∷ after) ps))
+
+  pub each-made : {n : ℕ} {x : RoomChange} {former latter : List Board} → Changes n x → x .Makes former latter → Each P (x .brings) → Each P former → Each P latter
+  each-made (add n f body) makes brought ps = each-added makes brought ps
+  each-made (replace n f body) makes brought ps = each-replaced makes brought ps
+  each-made (remove n) makes brought ps = each-removed makes ps

@@ -17,7 +17,7 @@ use Rattle.layout.proofs.Lists.{each-first, each-right}
 use Rattle.rooms.specs.File.{Board, board, bodiesOf, bodiesAt, fileOf, holds, readRoom}
 use Rattle.rooms.specs.Grammar.{Rising, next, IsFile}
 use Rattle.rooms.specs.Calls.{present, judgeBodies, Opened, has, openedBy, openRoom, bodyAt, fetchOpened, fetchBoard}
-use Rattle.rooms.proofs.Reading.{is-read, bodies-append, file-bodies}
+use Rattle.rooms.proofs.Reading.{is-read, bodies-append, file-bodies, file-length}
 use Rattle.promises.specs.Words.{KnownEdition, Counts, Refuses}
 use Rattle.promises.proofs.PublishedRules.{published-rules}
 use Rattle.room_promises.specs.Words.{Accepts, RoomFile, Present, stands, Absent, Added, added, Replaced, replaced, Removed, removed, RoomChange, adds, replaces, removes, tells, Changes, add, replace, remove, tellsFetch}
@@ -79,6 +79,11 @@ body-here low p (c ∷ before) b after (next le rises) =
     let on : p + length (c .body) + length (bodiesOf before) ≡ p + length (c .body ++ bodiesOf before) = omega (arith, length-append (c .body) (bodiesOf before)) in
     rw other (body-here (c .number + 1) (p + length (c .body)) before b after rises ∙ ap (λ (k : ℕ). At (partAt k (length (b .body)))) on)
 
+-- a body is not longer than all from it on
+first-body : (b : Board) (after : List Board) → length (b .body) ≤ length (bodiesOf (b ∷ after))
+unfolding bodiesOf
+first-body b after = omega (arith, length-append (b .body) (bodiesOf after))
+
 body-bytes : (form : ℕ) (before : List Board) (b : Board) (after : List Board) →
     let bs = before ++ (b ∷ after) in part (bodiesAt form (length bs) + length (bodiesOf before)) (length (b .body)) (fileOf form bs) ≡ b .body
 unfolding part bodiesOf
@@ -138,6 +143,7 @@ module _ (form e : ℕ) (file : List ℕ) (short : length file ≤ 65536) where
               accepted-judged e (bodiesAt form (length bs)) bs (room .accepted),
               body-here 0 (bodiesAt form (length bs)) before b after (room .is .holdable .rising),
             );
+        inside = omega (arith, ap length (room .is .is), file-length form bs, ap length (bodies-append before (b ∷ after)), length-append (bodiesOf before) (bodiesOf (b ∷ after)), first-body b after);
         bytes = rw (room .is .is) (body-bytes form before b after);
       }
 

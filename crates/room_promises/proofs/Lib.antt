@@ -3,5 +3,7 @@ pub mod Bodies
 pub mod Told
 pub mod Numbers
 pub mod Puts
+pub mod NewBytes
 pub mod Fetches
+pub mod Places
 pub mod Older

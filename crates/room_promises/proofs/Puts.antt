@@ -123,6 +123,7 @@ module _ {n : ℕ} (x : RoomChange) (k : Kind n x) (lt : n < 4294967296) (form e
               accepted = each-changed n (x .brings) bs ps (room .accepted);
             };
         stays = rw m (drop-at file′ (drop (length file′) out) (length file′) refl);
+        long = refl;
         fits = le;
         most = omega (arith, le, short);
       }

@@ -1,6 +1,6 @@
 -- What a fetch takes, and that what is put in is given back (02, "Machine-room file"): the body of a board that was added or replaced, and every other one, from the new file.
 -- Assumes nothing.
-use Prim.Native.Nat.{ℕ, _≤_, _<_}
+use Prim.Native.Nat.{ℕ, _+_, _≤_, _<_}
 use mathlib.Core.Path.{_≡_}
 use mathlib.Core.List.{List, [], _∷_, _++_}
 use lib.ListN.{length, take}
@@ -17,6 +17,7 @@ use Rattle.room_promises.specs.Words.{RoomFile, RoomChange, adds, replac
 pub record Fetches (form e : ℕ) (file : List ℕ) (n : ℕ) (body : List ℕ) : Type 0 where
   pub x : Part
   pub tells : tellsFetch form e file n ≡ told (x .len) x []
+  pub inside : x .place .0 + x .len ≤ length file
   pub bytes : part (x .place .0) (x .len) file ≡ body
 
 -- the file is that of boards whose bodies an edition accepts, of at most 65,536 bytes, and one of the boards has this number and this body

@@ -1,4 +1,5 @@
 pub mod Words
+pub mod Places
 pub mod Told
 pub mod Puts
 pub mod Fetches

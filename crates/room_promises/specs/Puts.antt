@@ -5,7 +5,7 @@ use mathlib.Core.Path.{_≡_}
 use mathlib.Core.List.{List, _∷_}
 use lib.ListN.{length, take, drop}
 use Rattle.layout.specs.Each.{Each}
-use Rattle.rooms.specs.File.{Board}
+use Rattle.rooms.specs.File.{Board, fileOf}
 use Rattle.promises.specs.Words.{Counts, IsRefused}
 use Rattle.promises.specs.Numbers.{Gives, imageNumbers}
 use Rattle.room_promises.specs.Words.{RoomFile, RoomChange, tells, Changes, tellsFetch}
@@ -18,6 +18,7 @@ pub record Put (x : RoomChange) (form e : ℕ) (file out : List ℕ) (m : ℕ) :
   pub makes : x .Makes former latter
   pub after : RoomFile form e (take m (x .call form e file out .memory)) latter
   pub stays : drop m (x .call form e file out .memory) ≡ drop m out
+  pub long : m ≡ length (fileOf form latter)
   pub fits : m ≤ length out
   pub most : m ≤ 65536
 
@@ -29,3 +30,9 @@ pub record RoomsPut : Type 1 where
   -- the numbers that each call can give
   pub numbers : (n : ℕ) (x : RoomChange) → Changes n x → (form e : ℕ) (file out : List ℕ) → Gives (21 ∷ x .number ∷ 12 ∷ imageNumbers) (tells x form e file out)
   pub fetchNumbers : (form e : ℕ) (file : List ℕ) (n : ℕ) → Gives (21 ∷ 22 ∷ imageNumbers) (tellsFetch form e file n)
+
+-- the new file is bytes where the body that is brought is, so that it may be lent to the next call
+abbrev pub NewBytes : Type 1
+NewBytes =
+    (n : ℕ) (x : RoomChange) → Changes n x → n < 4294967296 → (form e : ℕ) (file out : List ℕ) (m : ℕ) → Each (λ b. b < 256) file →
+    Each (λ b. Each (λ y. y < 256) (b .body)) (x .brings) → Counts (tells x form e file out) m → Each (λ b. b < 256) (take m (x .call form e file out .memory))

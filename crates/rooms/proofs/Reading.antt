@@ -286,7 +286,7 @@ head-headed : (form n : ℕ) (t : List ℕ) → form ≡ 1 → n ≤ 65535 → h
 unfolding headed
 head-headed form n t e le = rw (eq-eqb form 1 e, head-count form n t le, take-at (head form n) t 8 (head-length form n)) (same-refl (head form n))
 
-file-rest : (form : ℕ) (bs : List Board) → drop 8 (fileOf form bs) ≡ rowsOf bs ++ bodiesOf bs
+pub file-rest : (form : ℕ) (bs : List Board) → drop 8 (fileOf form bs) ≡ rowsOf bs ++ bodiesOf bs
 unfolding fileOf
 file-rest form bs = drop-at (head form (length bs)) (rowsOf bs ++ bodiesOf bs) 8 (head-length form (length bs))
 

@@ -1,0 +1,2 @@
+-- What C sees of machine-room files is what is promised.
+-- Assumes nothing.
