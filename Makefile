@@ -9,7 +9,7 @@
 # LIB=FILE takes a library that is already built, and builds none. LDLIBS has what it needs to link.
 
 # The first number is the newest edition that the library knows; the second counts the changes since that brought no new edition.
-VERSION := 4.1
+VERSION := 4.2
 EDITIONS := 1 2 3 4
 NEWEST := 4
 
