@@ -1,6 +1,6 @@
 /*
- * Every constant, accessor and layout function of a header. Compiled once with each edition's header;
- * nothing here calls the library.
+ * Every constant, accessor and layout function of a header; those that read a room file are in
+ * room.c. Compiled once with each edition's header; nothing here calls the library.
  */
 #define _DEFAULT_SOURCE
 
@@ -113,15 +113,26 @@ static void constants(void)
     expect_number(BOARDID_READING_IDENTITY, 6, "reading 6");
     expect_number(BOARDID_READING_DATE, 8, "reading 8");
 
+    expect_number(BOARDID_ROOM_FORM_1, 1, "form 1 of a room file");
+    expect_number(BOARDID_ROOM_MAX, 65536, "longest room file");
+    expect_number(BOARDID_ROOM_BOARDS_MAX, 7280, "most boards of a room file");
+    expect_number(BOARDID_ROOM_HEAD_SIZE, 8, "head of a room file");
+    expect_number(BOARDID_ROOM_ROW_SIZE, 8, "row of a room file");
+
     expect_number(BOARDID_IMAGE_MAX, 65536, "longest image");
     expect_number(BOARDID_RECORD_SIZE, 64, "record");
     expect_number(BOARDID_FIELD_SIZE, 20, "field");
     expect_number(BOARDID_WALK_SIZE, 16, "walk");
 }
 
+/* Whether a number is that of a refusal, or 0, in this edition. */
+static int is_refusal(uint32_t number)
+{
+    return number <= 23 && (BOARDID_EDITION >= 3 || number <= 16 || number >= 21);
+}
+
 static void refusals(void)
 {
-    const uint32_t last = BOARDID_EDITION >= 3 ? 20 : 16;
     uint32_t a, b;
 
     expect_number(BOARDID_NOT_REFUSED, 0, "refusal 0");
@@ -147,16 +158,19 @@ static void refusals(void)
     expect_number(BOARDID_REFUSED_PAYLOAD_CHECK, 19, "refusal 19");
     expect_number(BOARDID_REFUSED_BLOCK, 20, "refusal 20");
 #endif
-    for (a = 0; a <= last + 1; a++) {
-        expect(boardid_refusal_text(a)[0] != '\0', "a text for each refusal");
+    expect_number(BOARDID_REFUSED_ROOM_FILE, 21, "refusal 21");
+    expect_number(BOARDID_REFUSED_NO_BOARD, 22, "refusal 22");
+    expect_number(BOARDID_REFUSED_BOARD_THERE, 23, "refusal 23");
+    for (a = 0; a <= 32; a++) {
+        expect(boardid_refusal_text(a)[0] != '\0', "a text for each number");
+        expect((strcmp(boardid_refusal_text(a), boardid_refusal_text(0xFFFFFFFF)) != 0) ==
+                   is_refusal(a),
+               "one text for every number that is no refusal");
         for (b = 0; b < a; b++) {
-            expect(strcmp(boardid_refusal_text(a), boardid_refusal_text(b)) != 0,
+            expect(strcmp(boardid_refusal_text(a), boardid_refusal_text(b)) != 0 ||
+                       (!is_refusal(a) && !is_refusal(b)),
                    "a text of its own for each refusal");
         }
-    }
-    for (a = last + 1; a <= 32; a++) {
-        expect(strcmp(boardid_refusal_text(a), boardid_refusal_text(0xFFFFFFFF)) == 0,
-               "one text for every number that is no refusal");
     }
 }
 
@@ -444,9 +458,39 @@ static void types(void)
            "calls of the header");
 }
 
+/* The types of the calls on a room file, in the same way. */
+static void room_types(void)
+{
+    uint64_t (*const add)(uint32_t, uint32_t, const uint8_t *, size_t, uint32_t, uint32_t,
+                          const uint8_t *, size_t, uint8_t *, size_t) = boardid_room_add;
+    uint64_t (*const add_board)(uint32_t, const uint8_t *, size_t, uint32_t, uint32_t,
+                                const uint8_t *, size_t, uint8_t *,
+                                size_t) = boardid_room_add_board;
+    uint64_t (*const replace)(uint32_t, uint32_t, const uint8_t *, size_t, uint32_t, uint32_t,
+                              const uint8_t *, size_t, uint8_t *, size_t) = boardid_room_replace;
+    uint64_t (*const replace_board)(uint32_t, const uint8_t *, size_t, uint32_t, uint32_t,
+                                    const uint8_t *, size_t, uint8_t *,
+                                    size_t) = boardid_room_replace_board;
+    uint64_t (*const remove_one)(uint32_t, uint32_t, const uint8_t *, size_t, uint32_t, uint8_t *,
+                                 size_t) = boardid_room_remove;
+    uint64_t (*const remove_board)(uint32_t, const uint8_t *, size_t, uint32_t, uint8_t *,
+                                   size_t) = boardid_room_remove_board;
+    uint64_t (*const fetch)(uint32_t, uint32_t, const uint8_t *, size_t,
+                            uint32_t) = boardid_room_fetch;
+    uint64_t (*const fetch_board)(uint32_t, const uint8_t *, size_t,
+                                  uint32_t) = boardid_room_fetch_board;
+
+    expect(add != NULL && replace != NULL && remove_one != NULL && fetch != NULL,
+           "exported calls on a room file");
+    expect(add_board != NULL && replace_board != NULL && remove_board != NULL &&
+               fetch_board != NULL,
+           "calls of the header on a room file");
+}
+
 int main(void)
 {
     types();
+    room_types();
     constants();
     refusals();
     answers();

@@ -10,9 +10,11 @@
  *                                   edition that has the format must list alike (codes, keys, values)
  *                                   to a file for each image, FOLDER/NAME-N.list in edition N
  *     old_header change FOLDER      edits and removes each entry, and adds each field, that this
- *                                   edition names, each into a file
+ *                                   edition names, each into a file; removes each board from room
+ *                                   files that have the images for bodies, and adds it again
  *     old_header read FOLDER N      reads what edition N edited, removed and added, and expects that
- *                                   only that one value is changed, that one entry gone or new
+ *                                   only that one value is changed, that one entry gone or new, or
+ *                                   that one board; the bodies of all others are the same bytes
  */
 #define _DEFAULT_SOURCE
 
@@ -525,6 +527,153 @@ static void add_field(const char *folder, const struct image_case *c, struct len
     give_back(key);
 }
 
+/*
+ * Two room files, put together without the library: room 0 has the images whose format every edition
+ * has, room 1 has all. Image i is the body of board 100 i + 7.
+ */
+enum { ROOMS = 2 };
+
+static uint32_t board_of(uint32_t i)
+{
+    return 100 * i + 7;
+}
+
+/* Whether a room has an image, where one image, or none, is left out. */
+static int in_room(uint32_t room, uint32_t left_out, uint32_t i)
+{
+    return i != left_out && (room == 1 || images[i].since == 1);
+}
+
+/* Whether an edition has the formats of all images of a room. */
+static int has_room(uint32_t edition, uint32_t room, uint32_t left_out)
+{
+    uint32_t i;
+
+    for (i = 0; i < IMAGES; i++) {
+        if (in_room(room, left_out, i) && !has(edition, &images[i])) {
+            return 0;
+        }
+    }
+    return 1;
+}
+
+/* A room without one image, and the place of each body. */
+static struct lent room_of(uint32_t room, uint32_t left_out, uint32_t places[IMAGES])
+{
+    uint32_t i, count = 0, row = 8, place;
+    size_t length = 8;
+    struct lent file, image;
+
+    for (i = 0; i < IMAGES; i++) {
+        if (in_room(room, left_out, i)) {
+            image = lend_hex(images[i].image);
+            length += 8 + image.length;
+            give_back(image);
+            count++;
+        }
+    }
+    file = lend(length);
+    memset(file.bytes, 0, length);
+    file.bytes[0] = 0x52;
+    file.bytes[1] = 0x4D;
+    file.bytes[2] = 0x01;
+    file.bytes[5] = (uint8_t)count;
+    place = 8 + 8 * count;
+    for (i = 0; i < IMAGES; i++) {
+        if (in_room(room, left_out, i)) {
+            image = lend_hex(images[i].image);
+            file.bytes[row + 2] = (uint8_t)(board_of(i) >> 8);
+            file.bytes[row + 3] = (uint8_t)board_of(i);
+            file.bytes[row + 4] = (uint8_t)images[i].format;
+            file.bytes[row + 6] = (uint8_t)(image.length >> 8);
+            file.bytes[row + 7] = (uint8_t)image.length;
+            memcpy(file.bytes + place, image.bytes, image.length);
+            places[i] = place;
+            row += 8;
+            place += (uint32_t)image.length;
+            give_back(image);
+        }
+    }
+    return file;
+}
+
+/* The place of the first body whose format this edition does not have, where it refuses a room. */
+static uint32_t refused_place(uint32_t room, uint32_t left_out, const uint32_t places[IMAGES])
+{
+    uint32_t i;
+
+    for (i = 0; i < IMAGES; i++) {
+        if (in_room(room, left_out, i) && !has(BOARDID_EDITION, &images[i])) {
+            return places[i];
+        }
+    }
+    return 0;
+}
+
+/*
+ * What a change of a room put out goes into a file: the new room up to its length, after which the
+ * output is as it was. A refused one, which is to be as expected, left the whole output.
+ */
+static void store_room(const char *folder, uint32_t room, uint32_t i, const char *kind,
+                       uint64_t answer, struct lent out, struct refusal refusal)
+{
+    const char *const name = room == 0 ? "old_room" : "new_room";
+
+    expect_number(boardid_answer_number(answer), refusal.number, name);
+    expect_number(boardid_answer_place(answer), refusal.place, name);
+    expect(all_are(out, boardid_answer_count(answer), 0x5A), name);
+    if (refusal.number == 0) {
+        write_file(path_in(folder, name, i, kind), out.bytes, boardid_answer_count(answer));
+    }
+}
+
+/* Removes each board of each room, and adds it to the room without it. */
+static void change_rooms(const char *folder)
+{
+    uint32_t room, i, places[IMAGES];
+
+    for (room = 0; room < ROOMS; room++) {
+        for (i = 0; i < IMAGES; i++) {
+            const struct image_case *c = &images[i];
+            struct lent image, whole, rest, out;
+            struct refusal refusal = {0, 0};
+            uint64_t answer;
+
+            if (!in_room(room, IMAGES, i)) {
+                continue;
+            }
+            image = lend_hex(c->image);
+            whole = room_of(room, IMAGES, places);
+            out = lend(whole.length + 8);
+            if (!has_room(BOARDID_EDITION, room, IMAGES)) {
+                refusal.number = BOARDID_REFUSED_FORMAT;
+                refusal.place = refused_place(room, IMAGES, places);
+            }
+            answer = boardid_room_remove_board(BOARDID_ROOM_FORM_1, whole.bytes, whole.length,
+                                               board_of(i), out.bytes, out.length);
+            store_room(folder, room, i, "without", answer, out, refusal);
+            give_back(whole);
+
+            rest = room_of(room, i, places);
+            refusal.number = refusal.place = 0;
+            if (!has_room(BOARDID_EDITION, room, i)) {
+                refusal.number = BOARDID_REFUSED_FORMAT;
+                refusal.place = refused_place(room, i, places);
+            } else if (!has(BOARDID_EDITION, c)) {
+                refusal.number = BOARDID_REFUSED_FORMAT;
+            }
+            memset(out.bytes, 0x5A, out.length);
+            answer = boardid_room_add_board(BOARDID_ROOM_FORM_1, rest.bytes, rest.length,
+                                            board_of(i), c->format, image.bytes, image.length,
+                                            out.bytes, out.length);
+            store_room(folder, room, i, "with", answer, out, refusal);
+            give_back(out);
+            give_back(rest);
+            give_back(image);
+        }
+    }
+}
+
 /* Edits and removes each entry, and adds each field, that this edition names. */
 static void change_all(const char *folder)
 {
@@ -652,6 +801,62 @@ static void read_change(const char *folder, const struct image_case *c, uint32_t
     give_back(image);
 }
 
+/* Reads a room that another edition changed: it is the one put together, and its boards are read. */
+static void read_room(const char *folder, uint32_t room, uint32_t i, const char *kind,
+                      uint32_t left_out)
+{
+    const char *const name = room == 0 ? "old_room" : "new_room";
+    uint32_t k, row = 0, places[IMAGES];
+    struct lent wanted = room_of(room, left_out, places);
+    struct lent file = read_file(path_in(folder, name, i, kind));
+
+    expect(same_bytes(file, wanted), name);
+    for (k = 0; k < IMAGES; k++) {
+        uint64_t answer = boardid_room_fetch_board(BOARDID_ROOM_FORM_1, file.bytes, file.length,
+                                                   board_of(k));
+        struct boardid_part part = boardid_answer_part(answer);
+        struct lent image, body;
+
+        if (!in_room(room, left_out, k)) {
+            expect_number(boardid_answer_number(answer), BOARDID_REFUSED_NO_BOARD, name);
+        } else if (!has_room(BOARDID_EDITION, room, left_out)) {
+            expect_number(boardid_answer_number(answer), BOARDID_REFUSED_FORMAT, name);
+            expect_number(boardid_answer_place(answer), refused_place(room, left_out, places), name);
+        } else {
+            struct boardid_room_row given =
+                boardid_room_row_at(BOARDID_ROOM_FORM_1, file.bytes, file.length, row++);
+
+            expect_number(part.place, places[k], name);
+            expect_number(given.board, board_of(k), name);
+            expect_number(given.format, images[k].format, name);
+            expect_number(given.body_place, part.place, name);
+            expect_number(given.body_length, part.length, name);
+            image = lend_hex(images[k].image);
+            body = lend_copy(file.bytes + part.place, part.length);
+            expect(same_bytes(body, image), name);
+            expect_number(list_of(&images[k], body).count, images[k].count, name);
+            give_back(body);
+            give_back(image);
+        }
+    }
+    give_back(file);
+    give_back(wanted);
+}
+
+static void read_rooms(const char *folder, uint32_t editor)
+{
+    uint32_t room, i;
+
+    for (room = 0; room < ROOMS; room++) {
+        for (i = 0; i < IMAGES; i++) {
+            if (in_room(room, IMAGES, i) && has_room(editor, room, IMAGES)) {
+                read_room(folder, room, i, "without", i);
+                read_room(folder, room, i, "with", IMAGES);
+            }
+        }
+    }
+}
+
 /* Reads what another edition edited, removed and added. */
 static void read_all(const char *folder, uint32_t editor)
 {
@@ -694,8 +899,10 @@ int main(int argc, char **argv)
         list_all(argv[2]);
     } else if (argc == 3 && strcmp(argv[1], "change") == 0) {
         change_all(argv[2]);
+        change_rooms(argv[2]);
     } else if (argc == 4 && strcmp(argv[1], "read") == 0) {
         read_all(argv[2], (uint32_t)strtoul(argv[3], NULL, 10));
+        read_rooms(argv[2], (uint32_t)strtoul(argv[3], NULL, 10));
     } else {
         fprintf(stderr, "usage: old_header list|change FOLDER, or old_header read FOLDER EDITION\n");
         return 2;

@@ -66,6 +66,33 @@ int main()
     good = good && boardid_answer_count(answer) == 6;
     good = good && std::memcmp(removed, left, sizeof removed) == 0;
 
+    uint8_t room[8], filled[24], changed[30], emptied[8];
+    good = good && boardid_room_write_empty(BOARDID_ROOM_FORM_1, room, sizeof room) == 8;
+    good = good && boardid_room_contents_place(BOARDID_ROOM_FORM_1) == 8;
+    answer = boardid_room_add_board(BOARDID_ROOM_FORM_1, room, sizeof room, 7, BOARDID_FORMAT_VPD,
+                                    edited, 8, filled, sizeof filled);
+    good = good && boardid_answer_count(answer) == sizeof filled;
+    good = good && boardid_room_rows(BOARDID_ROOM_FORM_1, filled, sizeof filled) == 1;
+    const boardid_part body = boardid_answer_part(
+        boardid_room_fetch_board(BOARDID_ROOM_FORM_1, filled, sizeof filled, 7));
+    good = good && body.place == 16 && body.length == 8;
+    good = good && std::memcmp(filled + body.place, wanted, body.length) == 0;
+    answer = boardid_room_replace_board(BOARDID_ROOM_FORM_1, filled, sizeof filled, 7,
+                                        BOARDID_FORMAT_VPD, added, sizeof added, changed,
+                                        sizeof changed);
+    good = good && boardid_answer_count(answer) == sizeof changed;
+    const boardid_room_row row =
+        boardid_room_row_at(BOARDID_ROOM_FORM_1, changed, sizeof changed, 0);
+    good = good && row.board == 7 && row.format == BOARDID_FORMAT_VPD;
+    good = good && row.body_place == 16 && row.body_length == sizeof added;
+    answer = boardid_room_remove_board(BOARDID_ROOM_FORM_1, changed, sizeof changed, 7, emptied,
+                                       sizeof emptied);
+    good = good && boardid_answer_count(answer) == sizeof emptied;
+    good = good && std::memcmp(emptied, room, sizeof emptied) == 0;
+    answer = boardid_room_remove_board(BOARDID_ROOM_FORM_1, emptied, sizeof emptied, 7, room,
+                                       sizeof room);
+    good = good && boardid_answer_number(answer) == BOARDID_REFUSED_NO_BOARD;
+
     good = good && boardid_record_number(&entry) == 0;
     good = good && boardid_record_address_base(&entry) == 0;
     good = good && boardid_record_address_count(&entry) == 0;

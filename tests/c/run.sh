@@ -140,7 +140,7 @@ compiler() {
         folder=$room/$cc-$flavour
         mkdir -p "$folder"
         for edition in "${editions[@]}"; do
-            names=(layouts calls changes frames dates before_dates)
+            names=(layouts calls changes frames dates before_dates room)
             [ "$edition" -lt 3 ] || names+=(vendor)
             for name in "${names[@]}" old_header; do
                 try "$cc, $flavour: $name compiled with edition $edition" program "$folder/$name-$edition" "$edition" "tests/c/$name.c"
@@ -189,7 +189,12 @@ typedef char itself[BOARDID_EDITION == $edition ? 1 : -1];"
         done
     done
     brought_by 1 BOARDID_READING_DATE 'sizeof(struct boardid_date)' boardid_record_date boardid_add boardid_remove \
-        boardid_add_field boardid_remove_entry
+        boardid_add_field boardid_remove_entry \
+        BOARDID_REFUSED_ROOM_FILE BOARDID_REFUSED_NO_BOARD BOARDID_REFUSED_BOARD_THERE BOARDID_ROOM_FORM_1 BOARDID_ROOM_MAX \
+        BOARDID_ROOM_BOARDS_MAX BOARDID_ROOM_HEAD_SIZE BOARDID_ROOM_ROW_SIZE 'sizeof(struct boardid_room_row)' \
+        boardid_room_contents_place boardid_room_write_empty boardid_room_rows boardid_room_row_at \
+        boardid_room_add boardid_room_replace boardid_room_remove boardid_room_fetch \
+        boardid_room_add_board boardid_room_replace_board boardid_room_remove_board boardid_room_fetch_board
     brought_by 2 BOARDID_FBOSS_X86_CPU_MAC_ADDRESSES BOARDID_FBOSS_BMC_MAC_ADDRESSES BOARDID_FBOSS_SWITCH_ASIC_MAC_ADDRESSES \
         BOARDID_FBOSS_META_RESERVED_MAC_ADDRESSES BOARDID_VPD_INFO BOARDID_TINY_PRODUCT_IDENTITY_BATCH \
         BOARDID_TINY_SYSTEM_PRODUCT_IDENTITY_BATCH BOARDID_READING_IDENTITY_WITH_BATCH boardid_record_batch
@@ -261,7 +266,7 @@ made_headers() {
 
 # exported_calls EDITION: the exported calls that an edition may make, and no other, are declared in its header and defined in the library.
 exported_calls() {
-    local name names=(check list entry value string step write edit add remove)
+    local name names=(check list entry value string step write edit add remove room_add room_replace room_remove room_fetch)
     [ "$1" -lt 3 ] || names+=(vendor_read vendor_write)
     nm -g --defined-only "$lib" >"$room/nm" 2>"$room/nm.errors"
     for name in "${names[@]}"; do
@@ -282,7 +287,7 @@ installed() {
     install_here "PREFIX=$prefix" || return 1
     cmp "$prefix/include/boardid.h" "include/edition-$newest/boardid.h" || return 1
     export PKG_CONFIG_PATH=$prefix/lib/pkgconfig
-    pkg-config --atleast-version="$newest" boardid && pkg-config --atleast-version=4.1 boardid || return 1
+    pkg-config --atleast-version="$newest" boardid && pkg-config --atleast-version=4.2 boardid || return 1
     read -r -a flags <<<"$(pkg-config --cflags --libs boardid)"
     (cd "$room" && "$cc" -std=c99 -o list-installed "$root/examples/list.c" "${flags[@]}" "${more[@]}") || return 1
     "$room/list-installed" vpd samples/sku.vpd | grep -q "edition $newest, 1 entry" || return 1
