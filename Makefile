@@ -21,7 +21,7 @@ CFLAGS ?= -O2 -g
 WARNINGS := -Wall -Wextra -Wpedantic
 OUT := target/c
 
-all: $(OUT)/list $(OUT)/edit $(OUT)/vendor $(OUT)/backup
+all: $(OUT)/list $(OUT)/edit $(OUT)/vendor $(OUT)/backup $(OUT)/room
 
 ifeq ($(origin LIB), undefined)
 LIB := target/staticlib/libboardid.a

@@ -20,49 +20,6 @@
 
 #include "whole_file.h"
 
-/* Where a backup goes: the file's own path, and what is there, if anything is. */
-struct target {
-    char *path;
-    struct stat old;
-    int there;
-};
-
-/*
- * Finds out where a backup goes, symbolic links followed. Returns the exit status; a file that is
- * the image itself, or that is no regular file, is not taken.
- */
-static int find_target(const char *name, const char *image_name, struct target *target)
-{
-    struct stat link, image;
-
-    target->there = lstat(name, &link) == 0;
-    if (!target->there && errno != ENOENT) {
-        fprintf(stderr, "backup: %s: %s\n", name, strerror(errno));
-        return FAILED;
-    }
-    target->path = target->there ? realpath(name, NULL) : strdup(name);
-    if (target->path == NULL) {
-        fprintf(stderr, "backup: %s: %s\n", name, strerror(errno));
-        return FAILED;
-    }
-    if (!target->there) {
-        return DONE;
-    }
-    if (stat(target->path, &target->old) != 0) {
-        fprintf(stderr, "backup: %s: %s\n", name, strerror(errno));
-    } else if (!S_ISREG(target->old.st_mode)) {
-        fprintf(stderr, "backup: %s: not a regular file\n", name);
-    } else if (stat(image_name, &image) != 0) {
-        fprintf(stderr, "backup: %s: %s\n", image_name, strerror(errno));
-    } else if (image.st_dev == target->old.st_dev && image.st_ino == target->old.st_ino) {
-        fprintf(stderr, "backup: %s: is the image itself\n", name);
-    } else {
-        return DONE;
-    }
-    free(target->path);
-    return FAILED;
-}
-
 /* Backs up an entry of an image to a file; returns the exit status. */
 static int backup(uint32_t format, const char *image_name, const struct image_file *image,
                   uint64_t entry, const char *name)
@@ -79,8 +36,13 @@ static int backup(uint32_t format, const char *image_name, const struct image_fi
         return REFUSED;
     }
     record = boardid_record_at(bytes, 0);
-    status = find_target(name, image_name, &target);
+    status = find_target("backup", name, &target);
     if (status != DONE) {
+        return status;
+    }
+    status = is_another("backup", name, &target, image_name, "the image");
+    if (status != DONE) {
+        free(target.path);
         return status;
     }
     if (replace_file(target.path, target.there ? &target.old : NULL, image->bytes + record.place,

@@ -27,18 +27,6 @@
 
 #include "whole_file.h"
 
-/* The value of a hexadecimal digit; -1 of any other character. */
-static int hex_digit(char character)
-{
-    static const char digits[] = "0123456789abcdefABCDEF";
-    const char *found = character != '\0' ? strchr(digits, character) : NULL;
-
-    if (found == NULL) {
-        return -1;
-    }
-    return found - digits < 16 ? (int)(found - digits) : (int)(found - digits) - 6;
-}
-
 /* The bytes of a new value; of a new field its key, and then its value. */
 struct new_bytes {
     uint8_t *bytes;
@@ -73,30 +61,6 @@ static int append_hex(const char *word, struct new_bytes *bytes)
             word++;
         }
     }
-    return 0;
-}
-
-/* A code in decimal, or in hexadecimal after 0x; returns 0, or -1 where the word is none. */
-static int code_of_word(const char *word, uint32_t *code)
-{
-    unsigned long long number = 0;
-
-    if (word[0] != '0' || (word[1] != 'x' && word[1] != 'X')) {
-        if (number_of_word(word, UINT32_MAX, &number) != 0) {
-            return -1;
-        }
-    } else {
-        word += 2;
-        do {
-            int digit = hex_digit(*word++);
-
-            if (digit < 0 || number > UINT32_MAX / 16) {
-                return -1;
-            }
-            number = number * 16 + (unsigned)digit;
-        } while (*word != '\0');
-    }
-    *code = (uint32_t)number;
     return 0;
 }
 
@@ -224,7 +188,7 @@ static int change_of_words(uint32_t format, char **words, int count, int hex, st
         return usage();
     }
     change->word = words[0];
-    if (change->what == ADD ? code_of_word(words[0], &field.code) != 0
+    if (change->what == ADD ? word32_of_word(words[0], &field.code) != 0
                             : number_of_word(words[0], UINT64_MAX, &change->entry) != 0) {
         return usage();
     }

@@ -1,7 +1,7 @@
 /*
- * What the examples edit and backup do to write a file: it is at any time either the old one or the
- * new one, whole. A program that includes this file defines _XOPEN_SOURCE as 700 before anything
- * else.
+ * What the examples edit, backup and room do to write a file: it is at any time either the old one
+ * or the new one, whole. A program that includes this file defines _XOPEN_SOURCE as 700 before
+ * anything else.
  */
 #ifndef WHOLE_FILE_H
 #define WHOLE_FILE_H
@@ -26,6 +26,45 @@ static inline int number_of_word(const char *word, unsigned long long limit,
     errno = 0;
     *number = strtoull(word, &end, 10);
     return errno == 0 && *end == '\0' && *number <= limit ? 0 : -1;
+}
+
+/* The value of a hexadecimal digit; -1 of any other character. */
+static inline int hex_digit(char character)
+{
+    static const char digits[] = "0123456789abcdefABCDEF";
+    const char *found = character != '\0' ? strchr(digits, character) : NULL;
+
+    if (found == NULL) {
+        return -1;
+    }
+    return found - digits < 16 ? (int)(found - digits) : (int)(found - digits) - 6;
+}
+
+/*
+ * A number of 32 bits in decimal, or in hexadecimal after 0x; returns 0, or -1 where the word is
+ * none.
+ */
+static inline int word32_of_word(const char *word, uint32_t *value)
+{
+    unsigned long long number = 0;
+
+    if (word[0] != '0' || (word[1] != 'x' && word[1] != 'X')) {
+        if (number_of_word(word, UINT32_MAX, &number) != 0) {
+            return -1;
+        }
+    } else {
+        word += 2;
+        do {
+            int digit = hex_digit(*word++);
+
+            if (digit < 0 || number > UINT32_MAX / 16) {
+                return -1;
+            }
+            number = number * 16 + (unsigned)digit;
+        } while (*word != '\0');
+    }
+    *value = (uint32_t)number;
+    return 0;
 }
 
 /* Writes all bytes to a file descriptor and brings them to the disk; returns 0, or -1 with errno. */
@@ -135,6 +174,65 @@ static inline int replace_file(const char *path, const struct stat *old, const u
     free(temporary);
     errno = error;
     return result;
+}
+
+/* Where something is written to: the file's own path, and what is there, if anything is. */
+struct target {
+    char *path;
+    struct stat old;
+    int there;
+};
+
+/*
+ * Finds out where something is written to, symbolic links followed. Returns the exit status; a file
+ * that is no regular one is not taken. Where it is DONE, the path is to be freed.
+ */
+static inline int find_target(const char *program, const char *name, struct target *target)
+{
+    struct stat link;
+
+    target->there = lstat(name, &link) == 0;
+    if (!target->there && errno != ENOENT) {
+        fprintf(stderr, "%s: %s: %s\n", program, name, strerror(errno));
+        return FAILED;
+    }
+    target->path = target->there ? realpath(name, NULL) : strdup(name);
+    if (target->path == NULL) {
+        fprintf(stderr, "%s: %s: %s\n", program, name, strerror(errno));
+        return FAILED;
+    }
+    if (!target->there) {
+        return DONE;
+    }
+    if (stat(target->path, &target->old) != 0) {
+        fprintf(stderr, "%s: %s: %s\n", program, name, strerror(errno));
+    } else if (!S_ISREG(target->old.st_mode)) {
+        fprintf(stderr, "%s: %s: not a regular file\n", program, name);
+    } else {
+        return DONE;
+    }
+    free(target->path);
+    return FAILED;
+}
+
+/* Sees to it that a target is not the file that was read; returns the exit status. */
+static inline int is_another(const char *program, const char *name, const struct target *target,
+                             const char *read_name, const char *read_what)
+{
+    struct stat source;
+
+    if (!target->there) {
+        return DONE;
+    }
+    if (stat(read_name, &source) != 0) {
+        fprintf(stderr, "%s: %s: %s\n", program, read_name, strerror(errno));
+        return FAILED;
+    }
+    if (source.st_dev == target->old.st_dev && source.st_ino == target->old.st_ino) {
+        fprintf(stderr, "%s: %s: is %s itself\n", program, name, read_what);
+        return FAILED;
+    }
+    return DONE;
 }
 
 #endif

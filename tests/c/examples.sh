@@ -1,6 +1,6 @@
 #!/usr/bin/env bash
 # Runs the examples on copies of the samples and prints each command with what it writes and its exit status; run.sh compares that with examples.out.
-# Usage: examples.sh FOLDER, which has the programs list, edit, vendor and backup, and list-N, edit-N and vendor-N compiled with the header of an older edition N.
+# Usage: examples.sh FOLDER, which has the programs list, edit, vendor, backup and room, and list-N, edit-N, vendor-N and room-N compiled with the header of an older edition N.
 set -uo pipefail
 programs=$(cd "$1" && pwd)
 samples=$(cd "$(dirname "$0")/../../samples" && pwd)
@@ -423,4 +423,145 @@ run backup eeprom frames.vpd 0 note.entry
 run backup vpd frames.vpd 0
 run cmp note.entry before.entry
 run cmp frames.vpd before.vpd
+[ "$(echo *)" = "$before" ] && echo 'the folder is as before'
+
+echo '# room'
+run room room.bin
+run room-3 room.bin
+for name in sku.vpd board.vpd fboss.bin tiny.bin onie.bin; do
+    cp "$samples/$name" "body_$name"
+done
+run room my.room add 1002 vpd body_board.vpd
+run bytes my.room
+run stat -c '%a' my.room
+run room my.room add 17 vpd body_sku.vpd
+run room my.room add 0xF0000001 onie body_onie.bin
+run room my.room add 2001 tiny body_tiny.bin
+run room my.room add 0x3e9 fboss body_fboss.bin
+run cmp my.room room.bin
+run room my.room remove 1001
+run room my.room
+run room my.room replace 1002 tiny body_tiny.bin
+run room my.room replace 17 vpd body_board.vpd
+run room my.room
+run room my.room fetch 17 fetched
+run cmp fetched body_board.vpd
+run stat -c '%a' fetched
+run room my.room fetch 0xf0000001 fetched
+run cmp fetched body_onie.bin
+run room my.room remove 17
+run room my.room remove 4026531841
+run room my.room remove 2001
+run room my.room remove 1002
+run room my.room
+run bytes my.room
+run room my.room add 0 vpd body_sku.vpd
+run room my.room add 4294967295 vpd body_sku.vpd
+run room my.room add 2147483648 vpd body_sku.vpd
+run room my.room add 2147483647 vpd body_sku.vpd
+run room my.room
+run bytes my.room
+
+echo '# room: into files that are there; a symbolic link stays one'
+chmod 604 my.room
+ln -s my.room link.room
+run room link.room remove 0
+run readlink link.room
+run stat -c '%a %s' my.room
+ln -s fetched link.body
+run room link.room fetch 0xffffffff link.body
+run readlink link.body
+run cmp fetched body_sku.vpd
+
+echo '# room by edition 1: what it does not name stays; ONIE it does not have'
+run room-1 room.bin
+cp room.bin old.room
+run room old.room remove 0xF0000001
+run room-1 old.room remove 1001
+run room-1 old.room add 5 vpd body_sku.vpd
+run room-1 old.room replace 17 tiny body_tiny.bin
+run room-1 old.room fetch 1002 fetched
+run cmp fetched body_board.vpd
+run room-1 old.room
+run room old.room
+run room old.room fetch 1002 fetched
+run list vpd fetched
+run room-2 old.room add 6 vpd body_board.vpd
+run room old.room
+
+echo '# room: refusals and failures; nothing is changed and nothing left behind'
+cp -p my.room before.room
+cp -p old.room before_old.room
+cp -p room.bin before_room.bin
+printf 'RM\1\0\0\2\0\0\0\0\0\5\2\0\0\10\0\0\0\6\3\0\0\4\001\003SKU\002A7V\2\4\157' >no_end.room
+printf 'RM\1\0\0\2\0\0\0\0\0\5\2\0\0\1\0\0\0\6\11\0\0\1\0\0' >format.room
+printf 'RM\1\0\0\2\0\0\0\0\0\5\2\0\0\1\0\0\0\5\2\0\0\1\0\0' >twice.room
+printf 'RM\2\0\0\0\0\0\0\0\0\0' >form_2.room
+head -c 8962 room.bin >cut.room
+{ printf 'RM\1\0\0\1\0\0\0\0\0\5\2\0\377\360' && head -c 65520 /dev/zero; } >full.room
+{ cat full.room && printf '\0'; } >long.room
+: >empty.room
+ln -s nowhere lost.room
+mkfifo pipe.room
+before=$(echo *)
+run room my.room add 4294967295 vpd body_sku.vpd
+run room my.room add 1 tiny body_sku.vpd
+run room my.room add 1 fboss no_day.fboss
+run room my.room add 1 vpd twice.vpd
+run room my.room add 1 vpd long.vpd
+run room my.room add 1 vpd longest.vpd
+run room my.room add 1 vpd empty.room
+run room my.room replace 5 vpd body_sku.vpd
+run room my.room replace 4294967295 onie check.onie
+run room my.room remove 0
+run room my.room fetch 0 fetched
+run room room.bin add 1 vpd same_name.vpd
+run room-1 room.bin remove 17
+run room-1 room.bin fetch 17 fetched
+run room-2 room.bin add 1 vpd body_sku.vpd
+run room full.room
+run room full.room add 6 vpd body_sku.vpd
+run room full.room replace 5 vpd longest.vpd
+for name in no_end format twice form_2 cut long empty; do
+    run room "$name.room"
+    run room "$name.room" add 7 vpd body_sku.vpd
+    run room "$name.room" remove 5
+    run room "$name.room" fetch 6 fetched
+done
+run room body_sku.vpd
+run room missing.room
+run room missing.room remove 1
+run room missing.room fetch 1 fetched
+run room missing.room add 1 tiny body_sku.vpd
+run room missing.room add 1 vpd missing.vpd
+run room nowhere/my.room add 1 vpd body_sku.vpd
+run room lost.room add 1 vpd body_sku.vpd
+run room pipe.room
+run room .
+run room my.room add 1 vpd .
+run room my.room fetch 4294967295 my.room
+run room my.room fetch 4294967295 link.room
+run room my.room fetch 4294967295 .
+run room my.room fetch 4294967295 nowhere/fetched
+run room my.room fetch 4294967295 ''
+run room
+run room my.room add
+run room my.room add 1 vpd
+run room my.room add one vpd body_sku.vpd
+run room my.room add 4294967296 vpd body_sku.vpd
+run room my.room add 0x100000000 vpd body_sku.vpd
+run room my.room add -1 vpd body_sku.vpd
+run room my.room add 1 eeprom body_sku.vpd
+run room-2 my.room add 1 onie body_onie.bin
+run room my.room remove
+run room my.room remove 1 2
+run room my.room fetch 1
+run room my.room drop 1
+echo '$ room my.room >/dev/full'
+{ "$programs/room" my.room >/dev/full; } 2>&1
+echo "exit status $?"
+run cmp my.room before.room
+run cmp old.room before_old.room
+run cmp room.bin before_room.bin
+run cmp fetched body_board.vpd
 [ "$(echo *)" = "$before" ] && echo 'the folder is as before'

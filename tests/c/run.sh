@@ -92,13 +92,13 @@ all_headers() {
         "$folder/all_headers"
 }
 
-# The examples, with the newest header and, list and edit, with each older one, against their stored output; vendor with that of edition 3 compiles.
+# The examples, with the newest header and, list, edit and room, with each older one, against their stored output; vendor with that of edition 3 compiles.
 examples() {
     local folder=$1 name edition
-    for name in list edit vendor backup; do
+    for name in list edit vendor backup room; do
         "$cc" -std=c99 "${warnings[@]}" "${flags[@]}" -Iinclude -o "$folder/$name" "examples/$name.c" "$lib" "${more[@]}" || return 1
     done
-    for name in list edit; do
+    for name in list edit room; do
         for edition in "${editions[@]}"; do
             [ "$edition" = "$newest" ] || program "$folder/$name-$edition" "$edition" "examples/$name.c" || return 1
         done
