@@ -10,6 +10,7 @@ of_first_entry kind_by_edition_1, kind_by_edition_2, kind_by_edition_3, kind_by_
 of_first_entry date_by_edition_1, date_by_edition_2, date_by_edition_3, date_by_edition_4;
 of_first_entry frame_by_edition_1, frame_by_edition_2, frame_by_edition_3, frame_by_edition_4;
 of_first_entry moved_by_edition_1, moved_by_edition_2, moved_by_edition_3, moved_by_edition_4;
+of_first_entry room_by_edition_1, room_by_edition_2, room_by_edition_3, room_by_edition_4;
 
 enum {
     EDITIONS = 4,
@@ -24,10 +25,13 @@ static of_first_entry *const frames[EDITIONS] = {frame_by_edition_1, frame_by_ed
                                                  frame_by_edition_3, frame_by_edition_4};
 static of_first_entry *const moves[EDITIONS] = {moved_by_edition_1, moved_by_edition_2,
                                                 moved_by_edition_3, moved_by_edition_4};
+static of_first_entry *const rooms[EDITIONS] = {room_by_edition_1, room_by_edition_2,
+                                                room_by_edition_3, room_by_edition_4};
 
 /*
  * An image; the kind, the date and the frame of its first entry by each edition; and the length of
- * the image after the entry was removed and added again.
+ * the image after the entry was removed and added again. A room file of which it is the only body
+ * has 16 bytes more than the image, and is refused for what the image is refused for.
  */
 struct image_case {
     const char *what;
@@ -119,6 +123,8 @@ int main(void)
             expect_number(dates[e](c->format, image.bytes, image.length), c->dates[e], c->what);
             expect_number(frames[e](c->format, image.bytes, image.length), c->frames[e], c->what);
             expect_number(moves[e](c->format, image.bytes, image.length), c->moves[e], c->what);
+            expect_number(rooms[e](c->format, image.bytes, image.length),
+                          c->kinds[e] >= REFUSED ? c->kinds[e] : image.length + 16, c->what);
         }
         give_back(image);
     }

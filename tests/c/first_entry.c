@@ -1,10 +1,11 @@
 /*
- * Four functions of a program that has the headers of all editions: compiled once with each
- * edition's header, under the names that KIND, DATE, FRAME and MOVED are defined as. They give the
- * kind of the first entry of an image; its date as the number YYYYMMDD, which is 0 where its reading
- * is no date; the length of its frame, or what an edition before 4 has in its place; and the length
- * of the image, at most 64 bytes, after the entry was removed and added again. Where a call is
- * refused, all give the refusal's number times 100,000,000.
+ * Five functions of a program that has the headers of all editions: compiled once with each
+ * edition's header, under the names that KIND, DATE, FRAME, MOVED and ROOM are defined as. They give
+ * the kind of the first entry of an image; its date as the number YYYYMMDD, which is 0 where its
+ * reading is no date; the length of its frame, or what an edition before 4 has in its place; the
+ * length of the image, at most 64 bytes, after the entry was removed and added again; and the length
+ * of a room file of which the image is the only body. Where a call is refused, all give the
+ * refusal's number times 100,000,000.
  */
 #include <boardid.h>
 
@@ -12,6 +13,7 @@ uint32_t KIND(uint32_t format, const uint8_t *image, size_t length);
 uint32_t DATE(uint32_t format, const uint8_t *image, size_t length);
 uint32_t FRAME(uint32_t format, const uint8_t *image, size_t length);
 uint32_t MOVED(uint32_t format, const uint8_t *image, size_t length);
+uint32_t ROOM(uint32_t format, const uint8_t *image, size_t length);
 
 /* The first entry of an image, and the number of the refusal. */
 static uint32_t first_entry(uint32_t format, const uint8_t *image, size_t length,
@@ -76,4 +78,20 @@ uint32_t MOVED(uint32_t format, const uint8_t *image, size_t length)
         return boardid_answer_number(answer) * 100000000;
     }
     return boardid_answer_count(answer);
+}
+
+uint32_t ROOM(uint32_t format, const uint8_t *image, size_t length)
+{
+    uint8_t none[BOARDID_ROOM_HEAD_SIZE], room[96];
+    uint64_t answer;
+
+    boardid_room_write_empty(BOARDID_ROOM_FORM_1, none, sizeof none);
+    answer = boardid_room_add_board(BOARDID_ROOM_FORM_1, none, sizeof none, 7, format, image,
+                                    length, room, sizeof room);
+    if (boardid_answer_number(answer) != 0) {
+        return boardid_answer_number(answer) * 100000000;
+    }
+    length = boardid_answer_count(answer);
+    answer = boardid_room_fetch_board(BOARDID_ROOM_FORM_1, room, length, 7);
+    return boardid_answer_part(answer).place + boardid_answer_part(answer).length;
 }

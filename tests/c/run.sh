@@ -85,7 +85,7 @@ all_headers() {
     local folder=$1 edition parts=()
     for edition in "${editions[@]}"; do
         "$cc" -std=c99 "${warnings[@]}" "${flags[@]}" "-Iinclude/edition-$edition" "-DKIND=kind_by_edition_$edition" "-DDATE=date_by_edition_$edition" \
-            "-DFRAME=frame_by_edition_$edition" "-DMOVED=moved_by_edition_$edition" -c -o "$folder/first-$edition.o" tests/c/first_entry.c || return 1
+            "-DFRAME=frame_by_edition_$edition" "-DMOVED=moved_by_edition_$edition" "-DROOM=room_by_edition_$edition" -c -o "$folder/first-$edition.o" tests/c/first_entry.c || return 1
         parts+=("$folder/first-$edition.o")
     done
     "$cc" -std=c99 "${warnings[@]}" "${flags[@]}" -o "$folder/all_headers" tests/c/all_headers.c "${parts[@]}" "$lib" "${more[@]}" &&
@@ -351,12 +351,14 @@ else
 fi
 try 'make install with DESTDIR' staged
 for edition in 1 2; do
-    try "worked example 5 of docs/C-INTERFACE.md, edition $edition" worked_example 5 "$edition"
+    for example in 5 6; do
+        try "worked example $example of docs/C-INTERFACE.md, edition $edition" worked_example "$example" "$edition"
+    done
 done
-for example in 1 2 3 5; do
+for example in 1 2 3 5 6; do
     try "worked example $example of docs/C-INTERFACE.md, edition 3" worked_example "$example" 3
 done
-for example in 1 2 3 4 5; do
+for example in 1 2 3 4 5 6; do
     try "worked example $example of docs/C-INTERFACE.md" worked_example "$example" "$newest"
 done
 finish
