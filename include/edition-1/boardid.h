@@ -559,11 +559,12 @@ static inline size_t boardid_room_write_empty(uint32_t form, uint8_t *out, size_
 }
 
 /*
- * How many rows a room file of that form has. This is for a file that a call on room files has not
- * refused, told the same form: for the head and the contents of such a file alone are known to be
- * right. It may be given any other bytes too, and reads none past their length, but what it gives
- * then says nothing: it is 0 where there is no head with that form, where the rows that the head
- * counts are not all there, and of more than 65,536 bytes, and else what the head counts.
+ * How many rows a room file of that form has. This is for a file that a call on room files, told
+ * the same form, has not refused, or has refused with another number than 1, 2 and 21: only then
+ * are its head and its contents known to be right. It may be lent any other bytes too, and reads
+ * none past their length, but what it gives then says nothing of them: 0 where there is no head
+ * with that form, where the rows that the head counts are not all there, and of more than 65,536
+ * bytes, and else what the head counts.
  */
 static inline uint32_t boardid_room_rows(uint32_t form, const uint8_t *file, size_t file_length)
 {
@@ -578,10 +579,10 @@ static inline uint32_t boardid_room_rows(uint32_t form, const uint8_t *file, siz
 }
 
 /*
- * Row k of a room file of that form, counted from 0, with the place of its body. It is for a file
- * that a call on room files has not refused, as boardid_room_rows is, and takes any other bytes as
- * that does: whatever they are, it reads none past their length, and gives either a row whose body
- * lies inside them or, where there is none, a row of 0s.
+ * Row k of a room file of that form, counted from 0, with the place of its body. It relies on what
+ * boardid_room_rows relies on. It may be lent any other bytes too: whatever they are, it reads none
+ * past their length, and gives either a row whose body lies inside them or, where there is none, a
+ * row of 0s.
  *
  * It adds the lengths of all rows before k. A program that goes through a long file may do so
  * itself: the body of row k + 1 begins where that of row k ends.
