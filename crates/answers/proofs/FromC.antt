@@ -191,7 +191,7 @@ made-counts numbers most x n q l =
     let l′ : MadeLow numbers most (Wrote n) = rw q at l in
     rw q (whole-told n (partAt 0 0) [] (omega arith) (omega arith) .count refl)
 
-made-taken : (numbers : List ℕ) (most : ℕ) → all (between 1 23) numbers ≡ true → (x : Made) → MadeLow numbers most x → numberOf (packed (toldMade x)) ≡ 0 →
+pub made-taken : (numbers : List ℕ) (most : ℕ) → all (between 1 23) numbers ≡ true → (x : Made) → MadeLow numbers most x → numberOf (packed (toldMade x)) ≡ 0 →
     Counts (toldMade x) (countOf (packed (toldMade x)))
 made-taken numbers most table x low z =
     let w = made-some numbers most table x low (gives-zero numbers (toldMade x) table (made-gives numbers most x low) z) in

@@ -6,10 +6,8 @@ use mathlib.Core.Path.{_≡_}
 use mathlib.Core.List.{List, _∷_}
 use lib.ListN.{take}
 use Rattle.layout.specs.Bytes.{part}
-use Rattle.layout.specs.Write.{Outcome}
-use Rattle.records.specs.Exports.{Given, made, roomAddCall, roomReplaceCall, roomRemoveCall, roomFetchCall}
+use Rattle.records.specs.Exports.{Given, roomAddCall, roomReplaceCall, roomRemoveCall, roomFetchCall}
 use Rattle.promises.specs.Numbers.{imageNumbers}
-use Rattle.promises.specs.Rules.{Exactly}
 use Rattle.room_promises.specs.Words.{RoomChange, adds, replaces, removes, tells, Changes, tellsFetch}
 use Rattle.room_promises.specs.Puts.{Put}
 use Rattle.room_promises.specs.Fetches.{Held}

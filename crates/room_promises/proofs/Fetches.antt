@@ -178,18 +178,22 @@ kept b (add n f body) makes other a = kept-added makes a
 kept b (replace n f body) makes other a = kept-replaced makes other a
 kept b (remove n) makes other a = kept-removed makes other a
 
--- what a fetch gives is the body of a board of the file
-held : (form e : ℕ) (file : List ℕ) (k : ℕ) (body : List ℕ) → Each (λ b. b < 256) file → Fetches form e file k body → Held form e file k body
+-- the part that a fetch gives is the body of a board of the file
+pub held-part : (form e : ℕ) (file : List ℕ) (k : ℕ) (x : Part) → Each (λ b. b < 256) file → tellsFetch form e file k ≡ told (x .len) x [] →
+    Held form e file k (part (x .place .0) (x .len) file)
 unfolding fetchBoard
-held form e file k body by f = open-it (opening form e file 0) (f .tells)
+held-part form e file k x by tells = open-it (opening form e file 0) tells
   where
-    by-line : {t : Told} → length file ≤ 65536 → FetchTold form e file k t → t ≡ told (f .x .len) (f .x) [] → Held form e file k body
+    body : List ℕ
+    body = part (x .place .0) (x .len) file
+
+    by-line : {t : Told} → length file ≤ 65536 → FetchTold form e file k t → t ≡ told (x .len) x [] → Held form e file k body
     by-line le (wrong none-is) q = absurd (omega (arith, ap (λ (t : Told). t .number) q))
     by-line le (missing bs is gone) q = absurd (omega (arith, ap (λ (t : Told). t .number) q))
     by-line le (stored bs is there number place (firstRefused before b after number′ place′ ps r)) q = absurd (r .some (ap (λ (t : Told). t .number) q))
     by-line le (given before b after room same) q =
         let same-body : b .body ≡ body =
-        sym (rw (room .is .is) (body-bytes form before b after)) ∙ ap (λ (x : Part). part (x .place .0) (x .len) file) (ap (λ (t : Told). t .part) q) ∙ f .bytes in
+            sym (rw (room .is .is) (body-bytes form before b after)) ∙ ap (λ (y : Part). part (y .place .0) (y .len) file) (ap (λ (t : Told). t .part) q) in
         let same-board : b ≡ board k (b .format) body = ap₂ (λ (n : ℕ) (l : List ℕ). board n (b .format) l) same same-body in
         record {
           short = le;
@@ -199,9 +203,12 @@ held form e file k body by f = open-it (opening form e file 0) (f .tells)
           room = subst (λ (c : Board). RoomFile form e file (before ++ (c ∷ after))) same-board room;
         }
 
-    open-it : {o : Opened} → Opening form e file 0 o → toldLocated (fetchOpened o form e k) ≡ told (f .x .len) (f .x) [] → Held form e file k body
-    open-it (reads known le le′) q = by-line le (rooms-told .fetched form e file k by .line known le) (f .tells)
+    open-it : {o : Opened} → Opening form e file 0 o → toldLocated (fetchOpened o form e k) ≡ told (x .len) x [] → Held form e file k body
+    open-it (reads known le le′) q = by-line le (rooms-told .fetched form e file k by .line known le) tells
     open-it (refuses number some) q = absurd (some (ap (λ (t : Told). t .number) q))
+
+held : (form e : ℕ) (file : List ℕ) (k : ℕ) (body : List ℕ) → Each (λ b. b < 256) file → Fetches form e file k body → Held form e file k body
+held form e file k body by f = subst (Held form e file k) (f .bytes) (held-part form e file k (f .x) by (f .tells))
 
 pub takes : Takes
 takes form e file n body by =

@@ -141,7 +141,7 @@ opening form e file lent =
     (λ q. let w = neither (ltb limit (length file)) (ltb limit lent) q in reads (known-edition e known) (ltb-false limit (length file) (w .0)) (ltb-false limit lent (w .1))))
     (λ _. refuses 1 (λ z. absurd (omega (arith, z))))
 
-table : {n : ℕ} {x : RoomChange} → Changes n x → all (between 1 23) (changeNumbers x) ≡ true
+pub table : {n : ℕ} {x : RoomChange} → Changes n x → all (between 1 23) (changeNumbers x) ≡ true
 unfolding all
 table (add n f body) = refl
 table (replace n f body) = refl
