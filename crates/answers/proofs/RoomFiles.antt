@@ -107,9 +107,10 @@ module _ (form e : ℕ) (file : List ℕ) (n : ℕ) where
 
 rooms-taken : (n : ℕ) (x : RoomChange) (call : ℕ → ℕ → List ℕ → List ℕ → Given) → ExportOf n x call → n < 4294967296 → (form e : ℕ) (file out : List ℕ) → Bytes file →
     numberOf (call form e file out .answer) ≡ 0 → Put x form e file out (countOf (call form e file out .answer)) × (call form e file out .memory ≡ x .call form e file out .memory)
-rooms-taken n x call export lt form e file out by z =
-    (rooms-put .taken n x (packs export .change) lt form e file out (countOf (call form e file out .answer)) by (counted n x call export form e file out z),
-     packs export .memory form e file out)
+rooms-taken n x call export lt form e file out by z = (
+  rooms-put .taken n x (packs export .change) lt form e file out (countOf (call form e file out .answer)) by (counted n x call export form e file out z),
+  packs export .memory form e file out,
+)
 
 pub rooms-from-c : RoomsFromC
 rooms-from-c =

@@ -21,11 +21,11 @@ use Rattle.room_promises.specs.Words.{Accepts}
 use Rattle.room_promises.specs.Told.{Refused, FirstRefused, first}
 
 -- a body is accepted, or refused by a number that is not 0
-data Body (e : ℕ) (b : Board) (p : ℕ) : Allowed → Type 0 where
+pub data Body (e : ℕ) (b : Board) (p : ℕ) : Allowed → Type 0 where
   accepted : Accepts e b → Body e b p allowed
   refused : (number place : ℕ) → Refused e b number place → Body e b p (denied (refusal number (p + place)))
 
-body : (e : ℕ) (b : Board) (p : ℕ) → Body e b p (bodyAllowed (checkImage (b .format) e (b .body)) p)
+pub body : (e : ℕ) (b : Board) (p : ℕ) → Body e b p (bodyAllowed (checkImage (b .format) e (b .body)) p)
 unfolding all
 body e b p = go (checkImage (b .format) e (b .body)) refl
   where

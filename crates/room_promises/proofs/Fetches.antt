@@ -14,10 +14,10 @@ use Rattle.layout.specs.Each.{Each, also}
 use Rattle.layout.specs.Calls.{Told, told, toldLocated}
 use Rattle.layout.specs.Change.{Allowed, allowed, denied}
 use Rattle.layout.proofs.Lists.{each-first, each-right}
-use Rattle.rooms.specs.File.{Board, board, bodiesOf, bodiesAt, fileOf, holds, readRoom}
+use Rattle.rooms.specs.File.{Board, board, bodiesOf, bodiesAt, fileOf}
 use Rattle.rooms.specs.Grammar.{Rising, next, IsFile}
 use Rattle.rooms.specs.Calls.{present, judgeBodies, Opened, has, openedBy, openRoom, bodyAt, fetchOpened, fetchBoard}
-use Rattle.rooms.proofs.Reading.{is-read, bodies-append, file-bodies, file-length}
+use Rattle.rooms.proofs.Reading.{bodies-append, file-bodies, file-length}
 use Rattle.promises.specs.Words.{KnownEdition, Counts, Refuses}
 use Rattle.promises.proofs.PublishedRules.{published-rules}
 use Rattle.room_promises.specs.Words.{Accepts, RoomFile, Present, stands, Absent, Added, added, Replaced, replaced, Removed, removed, RoomChange, adds, replaces, removes, tells, Changes, add, replace, remove, tellsFetch}
@@ -26,7 +26,7 @@ use Rattle.room_promises.specs.Puts.{Put}
 use Rattle.room_promises.specs.Fetches.{Fetches, Held, Takes, newFile, GivenBack}
 use Rattle.room_promises.proofs.Boards.{Asked, good, bad, present-asked, absent-present, rising-absent}
 use Rattle.room_promises.proofs.Bodies.{Bodies, fine, faulty, judged}
-use Rattle.room_promises.proofs.Told.{open-read, rooms-told}
+use Rattle.room_promises.proofs.Told.{file-read, open-read, rooms-told}
 use Rattle.room_promises.proofs.Puts.{Opening, reads, refuses, opening, rooms-put}
 
 -- ---- a board of a list
@@ -70,7 +70,7 @@ among-stands (c ∷ bs) (later a) =
 first-rises : (low : ℕ) (c : Board) (before : List Board) (b : Board) (after : List Board) → Rising low (c ∷ (before ++ (b ∷ after))) → b .number ≡ c .number → ⊥
 first-rises low c before b after (next le rises) = each-first (each-right before (b ∷ after) (rising-absent (c .number) (c .number + 1) (before ++ (b ∷ after)) (omega arith) rises))
 
-body-here : (low p : ℕ) (before : List Board) (b : Board) (after : List Board) → Rising low (before ++ (b ∷ after)) →
+pub body-here : (low p : ℕ) (before : List Board) (b : Board) (after : List Board) → Rising low (before ++ (b ∷ after)) →
     bodyAt (b .number) p (before ++ (b ∷ after)) ≡ At (partAt (p + length (bodiesOf before)) (length (b .body)))
 unfolding bodyAt bodiesOf
 body-here low p [] b after rises = rw (eq-eqb (b .number) (b .number) refl) (ap (λ (k : ℕ). At (partAt k (length (b .body)))) (omega arith))
@@ -97,7 +97,7 @@ body-bytes form before b after =
 -- ---- fetched
 
 -- bodies that are accepted are judged so
-accepted-judged : (e p : ℕ) (bs : List Board) → Each (Accepts e) bs → judgeBodies e p bs ≡ allowed
+pub accepted-judged : (e p : ℕ) (bs : List Board) → Each (Accepts e) bs → judgeBodies e p bs ≡ allowed
 accepted-judged e p bs ps = go (judged e p bs)
   where
     go : {a : Allowed} → Bodies e p bs a → a ≡ allowed
@@ -109,27 +109,25 @@ accepted-judged e p bs ps = go (judged e p bs)
 accepted-edition : {e : ℕ} {b : Board} → Accepts e b → KnownEdition e
 accepted-edition {e} {b} a = published-rules .accepted-is (b .format) e (b .body) (a .count) (a .counts) .serves .edition
 
-present-allowed : (n : ℕ) (bs : List Board) → Present n bs → present n bs ≡ allowed
+pub present-allowed : (n : ℕ) (bs : List Board) → Present n bs → present n bs ≡ allowed
 present-allowed n bs p = go (present-asked n bs)
   where
     go : {a : Allowed} → Asked (Present n bs) 22 a → a ≡ allowed
     go (good q) = refl
     go (bad q) = absurd (q p)
 
-absent-denied : (n : ℕ) (bs : List Board) → Absent n bs → present n bs ≡ denied (refusal 22 0)
-absent-denied n bs a = go (present-asked n bs)
+pub missing-denied : (n : ℕ) (bs : List Board) → (Present n bs → ⊥) → present n bs ≡ denied (refusal 22 0)
+missing-denied n bs gone = go (present-asked n bs)
   where
     go : {x : Allowed} → Asked (Present n bs) 22 x → x ≡ denied (refusal 22 0)
-    go (good p) = absurd (absent-present a p)
+    go (good p) = absurd (gone p)
     go (bad p) = refl
 
 module _ (form e : ℕ) (file : List ℕ) (short : length file ≤ 65536) where
-  file-opened : (bs : List Board) → IsFile form file bs → KnownEdition e → openRoom form e file 0 ≡ has bs
-  file-opened bs is known =
-      let read : readRoom form file ≡ holds bs = rw (is .is) (is-read form bs (is .holdable)) in
-      open-read form e file 0 known short (omega arith) ∙ ap openedBy read
+  pub file-opened : (bs : List Board) → IsFile form file bs → KnownEdition e → openRoom form e file 0 ≡ has bs
+  file-opened bs is known = open-read form e file 0 known short (omega arith) ∙ ap openedBy (file-read is)
 
-  fetch-stands : (before : List Board) (b : Board) (after : List Board) → RoomFile form e file (before ++ (b ∷ after)) → Fetches form e file (b .number) (b .body)
+  pub fetch-stands : (before : List Board) (b : Board) (after : List Board) → RoomFile form e file (before ++ (b ∷ after)) → Fetches form e file (b .number) (b .body)
   unfolding fetchBoard
   fetch-stands before b after room =
       let bs = before ++ (b ∷ after) in
@@ -149,7 +147,7 @@ module _ (form e : ℕ) (file : List ℕ) (short : length file ≤ 65536) where
 
   fetch-absent : (n : ℕ) (bs : List Board) → IsFile form file bs → KnownEdition e → Absent n bs → Refuses (tellsFetch form e file n) 22 0
   unfolding fetchBoard
-  fetch-absent n bs is known a = rw (file-opened bs is known, absent-denied n bs a)
+  fetch-absent n bs is known a = rw (file-opened bs is known, missing-denied n bs (absent-present a))
 
   fetch-among : (b : Board) (bs : List Board) → RoomFile form e file bs → Among b bs → Fetches form e file (b .number) (b .body)
   fetch-among b bs room a = let s = among-stands bs a in fetch-stands (s .before) b (s .after) (subst (RoomFile form e file) (s .whole) room)
@@ -193,7 +191,7 @@ held-part form e file k x by tells = open-it (opening form e file 0) tells
     by-line le (stored bs is there number place (firstRefused before b after number′ place′ ps r)) q = absurd (r .some (ap (λ (t : Told). t .number) q))
     by-line le (given before b after room same) q =
         let same-body : b .body ≡ body =
-            sym (rw (room .is .is) (body-bytes form before b after)) ∙ ap (λ (y : Part). part (y .place .0) (y .len) file) (ap (λ (t : Told). t .part) q) in
+        sym (rw (room .is .is) (body-bytes form before b after)) ∙ ap (λ (y : Part). part (y .place .0) (y .len) file) (ap (λ (t : Told). t .part) q) in
         let same-board : b ≡ board k (b .format) body = ap₂ (λ (n : ℕ) (l : List ℕ). board n (b .format) l) same same-body in
         record {
           short = le;

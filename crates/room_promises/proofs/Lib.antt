@@ -5,5 +5,6 @@ pub mod Numbers
 pub mod Puts
 pub mod NewBytes
 pub mod Fetches
+pub mod Exact
 pub mod Places
 pub mod Older

@@ -81,10 +81,14 @@ kind (remove n) =
 
 -- ---- the table
 
+-- the file of boards is read as those
+pub file-read : {form : ℕ} {file : List ℕ} {bs : List Board} → IsFile form file bs → readRoom form file ≡ holds bs
+file-read {form} {file} {bs} is = rw (is .is) (is-read form bs (is .holdable))
+
 -- a file that is read as wrong is the file of no boards
 no-file : (form : ℕ) (file : List ℕ) → readRoom form file ≡ isWrong → (bs : List Board) → IsFile form file bs → ⊥
 no-file form file q bs is =
-    let r : readRoom form file ≡ holds bs = rw (is .is) (is-read form bs (is .holdable)) in
+    let r = file-read is in
     let z : _≡_ {A = ℕ} 0 1 = cc in
     absurd (omega arith)
 
@@ -260,8 +264,8 @@ fetch-tells form e file n by =
 
 one-list : (form : ℕ) (file : List ℕ) (bs cs : List Board) → IsFile form file bs → IsFile form file cs → bs ≡ cs
 one-list form file bs cs x y =
-    let p : readRoom form file ≡ holds bs = rw (x .is) (is-read form bs (x .holdable)) in
-    let q : readRoom form file ≡ holds cs = rw (y .is) (is-read form cs (y .holdable)) in
+    let p = file-read x in
+    let q = file-read y in
     cc
 
 pub rooms-told : RoomsTold

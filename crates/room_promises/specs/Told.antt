@@ -1,5 +1,6 @@
 -- What the calls on a machine-room file tell, by the table and in its order: each line where none before it holds, so that each is given exactly where it says (02, "Machine-room file").
--- A file is taken exactly where it is the file of a list of boards and every body is accepted: `taken` and `given` ask that, and every other line denies it or comes after it.
+-- A file is taken exactly where it is the file of a list of boards and every body is accepted: `taken` and `given` ask that, and every other line denies it or comes after it. One line holds (RoomsTold), and no
+-- other (RoomsExact).
 -- Lent memory is bytes: that is asked of the file.
 -- Assumes nothing.
 use Prim.Native.Nat.{ℕ, _+_, _*_, _≤_, _<_}
@@ -73,3 +74,9 @@ pub record RoomsTold : Type 1 where
   pub one : (form : ℕ) (file : List ℕ) (bs cs : List Board) → IsFile form file bs → IsFile form file cs → bs ≡ cs
   pub changed : (n : ℕ) (x : RoomChange) → Changes n x → (form e : ℕ) (file out : List ℕ) → Each (λ b. b < 256) file → ChangeTells x form e file out
   pub fetched : (form e : ℕ) (file : List ℕ) (n : ℕ) → Each (λ b. b < 256) file → FetchTells form e file n
+
+-- what any line says is what is told
+pub record RoomsExact : Type 1 where
+  pub changed : (n : ℕ) (x : RoomChange) → Changes n x → (form e : ℕ) (file out : List ℕ) → Each (λ b. b < 256) file → KnownEdition e → length file ≤ 65536 → length out ≤ 65536 →
+      (t : Told) → ChangeTold x form e file out t → t ≡ tells x form e file out
+  pub fetched : (form e : ℕ) (file : List ℕ) (n : ℕ) → Each (λ b. b < 256) file → KnownEdition e → length file ≤ 65536 → (t : Told) → FetchTold form e file n t → t ≡ tellsFetch form e file n
