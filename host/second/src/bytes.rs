@@ -1,4 +1,4 @@
-//! The twelve calls in the byte form of the C interface.
+//! The sixteen calls in the byte form of the C interface.
 //!
 //! Records, fields, walks, pieces and a vendor block lie in lent bytes as 32-bit words, low byte
 //! first, and a last one that is cut short counts as none. Every call answers with one 64-bit number. Its bits 59 to
@@ -132,6 +132,42 @@ pub fn vendor_write(
     let offsets = offsets.to_le_bytes().map(|byte| byte as i8);
     let pieces: Vec<u32> = words(pieces).collect();
     answer(crate::vendor_write(format, edition, serial, offsets, &pieces, out).map(count))
+}
+
+/// Adds a board to a room file into a second buffer: the new file's length.
+pub fn room_add(
+    form: u32,
+    edition: u32,
+    file: &[u8],
+    board: u32,
+    format: u32,
+    body: &[u8],
+    out: &mut [u8],
+) -> u64 {
+    answer(crate::room_add(form, edition, file, board, format, body, out).map(count))
+}
+
+/// Replaces the body of a board, and its format, into a second buffer: the new file's length.
+pub fn room_replace(
+    form: u32,
+    edition: u32,
+    file: &[u8],
+    board: u32,
+    format: u32,
+    body: &[u8],
+    out: &mut [u8],
+) -> u64 {
+    answer(crate::room_replace(form, edition, file, board, format, body, out).map(count))
+}
+
+/// Removes a board from a room file into a second buffer: the new file's length.
+pub fn room_remove(form: u32, edition: u32, file: &[u8], board: u32, out: &mut [u8]) -> u64 {
+    answer(crate::room_remove(form, edition, file, board, out).map(count))
+}
+
+/// Gives the body of a board: its place in the file and its length.
+pub fn room_fetch(form: u32, edition: u32, file: &[u8], board: u32) -> u64 {
+    answer(crate::room_fetch(form, edition, file, board).map(part))
 }
 
 /// What a call gives where nothing is refused.

@@ -2,7 +2,7 @@
 
 use crate::refusal::{Reason, Refusal};
 
-/// No image and no output is longer than this.
+/// No image, no room file and no output is longer than this.
 pub(crate) const LONGEST: usize = 65_536;
 
 /// The first bytes of an FBOSS image: magic, version and a reserved byte.
@@ -128,7 +128,7 @@ pub(crate) enum Edition {
 }
 
 impl Edition {
-    fn from_number(number: u32) -> Result<Edition, Refusal> {
+    pub(crate) fn from_number(number: u32) -> Result<Edition, Refusal> {
         match number {
             1 => Ok(Edition::One),
             2 => Ok(Edition::Two),
@@ -149,7 +149,7 @@ pub(crate) fn known(format: u32, edition: u32) -> Result<(Format, Edition), Refu
     Ok((format, edition))
 }
 
-/// Refuses the length of an image or an output that is too long.
+/// Refuses the length of an image, a room file or an output that is too long.
 pub(crate) fn not_too_long(length: usize) -> Result<(), Refusal> {
     if length > LONGEST {
         Err(Reason::TooLong.at(0))

@@ -1,10 +1,10 @@
 //! A second, independent implementation of the board-identity library.
 //!
 //! It reads, writes and changes images of four layouts: FBOSS v5 (format 1), VPD 2.0 (format 2), Tiny
-//! EEPROM version 2 (format 3) and ONIE (format 4), and reads and writes the vendor blocks of an ONIE
-//! image. It is written from the scope document (01) and the change requests (02, items 1 and
-//! 3 to 7) alone, so that its answers can be compared with those of the library proper. Clarity comes before
-//! speed here.
+//! EEPROM version 2 (format 3) and ONIE (format 4), reads and writes the vendor blocks of an ONIE
+//! image, and keeps the images of a room's boards in one file. It is written from the scope document
+//! (01) and the change requests (02, items 1 and 3 to 8) alone, so that its answers can be compared
+//! with those of the library proper. Clarity comes before speed here.
 //!
 //! No call panics, whatever it is given, and a refused call leaves lent memory as it was.
 
@@ -17,6 +17,7 @@ mod formats;
 mod frames;
 mod names;
 mod refusal;
+mod room;
 mod vendor;
 mod write;
 
@@ -27,6 +28,7 @@ pub mod program;
 mod tests;
 
 pub use refusal::Refusal;
+pub use room::{room_add, room_fetch, room_remove, room_replace};
 pub use vendor::{vendor_read, vendor_write, Payload};
 pub use write::{add, edit, remove, write};
 

@@ -2,7 +2,7 @@
 
 /// Why a call is refused, and where.
 ///
-/// The place counts bytes of the image, or, in a write, fields of the list.
+/// The place counts bytes of the image or of the room file, or, in a write, fields of the list.
 #[derive(Clone, Copy, Debug, PartialEq, Eq)]
 pub struct Refusal {
     pub number: u32,
@@ -15,7 +15,7 @@ pub struct Refusal {
 pub(crate) enum Reason {
     /// The edition is not 1 to 4.
     Edition = 1,
-    /// The image, the output or the buffer for a payload is longer than 65,536 bytes.
+    /// The image, the room file, the output or the buffer for a payload is longer than 65,536 bytes.
     TooLong = 2,
     /// The image is shorter than the header, or a fixed header byte is wrong.
     Header = 3,
@@ -56,6 +56,13 @@ pub(crate) enum Reason {
     PayloadCheck = 19,
     /// The block has another version, or not nine bytes.
     Block = 20,
+    /// The head or the contents of a room file are wrong, it is not of the form told, or it does not
+    /// end with its last body.
+    Contents = 21,
+    /// No board of that number.
+    NoBoard = 22,
+    /// A board of that number is already there.
+    BoardThere = 23,
 }
 
 impl Reason {

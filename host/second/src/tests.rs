@@ -7,6 +7,7 @@ mod add_and_remove;
 mod dates;
 mod frame_lengths;
 mod onie;
+mod room;
 mod vendor;
 
 const FBOSS: u32 = 1;
