@@ -1,4 +1,4 @@
-//! The twelve calls with their arguments, made on the library and on the second reader.
+//! The sixteen calls with their arguments, made on the library and on the second reader.
 
 use crate::lent::Lent;
 
@@ -16,10 +16,14 @@ pub enum Kind {
     VendorWrite,
     Add,
     Remove,
+    RoomAdd,
+    RoomReplace,
+    RoomRemove,
+    RoomFetch,
 }
 
 /// The calls' names, by kind.
-pub const NAMES: [&str; 12] = [
+pub const NAMES: [&str; 16] = [
     "check",
     "list",
     "entry",
@@ -32,20 +36,27 @@ pub const NAMES: [&str; 12] = [
     "vendor_write",
     "add",
     "remove",
+    "room_add",
+    "room_replace",
+    "room_remove",
+    "room_fetch",
 ];
 
 /// One call. What its kind does not take stands at nothing.
 #[derive(Clone, Copy)]
 pub struct Call<'a> {
     pub kind: Kind,
-    /// A step has its format and edition in the walk.
+    /// A step has its format and edition in the walk. Of a room call it is the new body's format.
     pub format: u32,
     pub edition: u32,
+    /// The form that a room call is told, and the number of its board.
+    pub form: u32,
+    pub board: u32,
     /// The entry's number, or the string's, or the offsets of a vendor write.
     pub n: u64,
     /// The parts that are only read: the image, then the new value of an edit, or the field and the
     /// values of an add. Of a write, the fields, then the values. Of a vendor write, the serial, then
-    /// the pieces.
+    /// the pieces. Of a room call, the file, then the new body.
     pub read: [&'a [u8]; 3],
     /// The walk of a step, which is read and written.
     pub walk: &'a [u8],
@@ -62,6 +73,8 @@ impl<'a> Call<'a> {
             kind: Kind::Check,
             format,
             edition,
+            form: 0,
+            board: 0,
             n: 0,
             read: [image, &[], &[]],
             walk: &[],
@@ -176,6 +189,45 @@ impl<'a> Call<'a> {
         }
     }
 
+    /// The fetch of a board from a room file, from which the other calls on it are made.
+    pub fn fetch(form: u32, edition: u32, file: &'a [u8], board: u32) -> Call<'a> {
+        Call {
+            kind: Kind::RoomFetch,
+            form,
+            board,
+            ..Call::check(0, edition, file)
+        }
+    }
+
+    pub fn add_board(self, format: u32, body: &'a [u8], room: usize) -> Call<'a> {
+        Call {
+            kind: Kind::RoomAdd,
+            format,
+            read: [self.read[0], body, &[]],
+            room,
+            ..self
+        }
+    }
+
+    pub fn replace_board(self, format: u32, body: &'a [u8], room: usize) -> Call<'a> {
+        let kind = Kind::RoomReplace;
+        Call {
+            kind,
+            ..self.add_board(format, body, room)
+        }
+    }
+
+    pub fn remove_board(self, room: usize) -> Call<'a> {
+        let kind = Kind::RoomRemove;
+        Call { kind, room, ..self }
+    }
+
+    /// Whether this is a call on a room file.
+    pub fn is_of_room(&self) -> bool {
+        use Kind::{RoomAdd, RoomFetch, RoomRemove, RoomReplace};
+        matches!(self.kind, RoomAdd | RoomReplace | RoomRemove | RoomFetch)
+    }
+
     pub fn name(&self) -> &'static str {
         NAMES[self.kind as usize]
     }
@@ -183,9 +235,16 @@ impl<'a> Call<'a> {
     /// The numbers that the call takes, by name.
     pub fn numbers(&self) -> Vec<(&'static str, String)> {
         let mut numbers = Vec::new();
-        if self.kind != Kind::Step {
+        if self.is_of_room() {
+            numbers.push(("form", self.form.to_string()));
+        } else if self.kind != Kind::Step {
             numbers.push(("format", self.format.to_string()));
+        }
+        if self.kind != Kind::Step {
             numbers.push(("edition", self.edition.to_string()));
+        }
+        if self.is_of_room() {
+            numbers.push(("board", format!("{:#010X}", self.board)));
         }
         match self.kind {
             Kind::Entry | Kind::Value | Kind::Edit | Kind::Remove => {
@@ -193,6 +252,7 @@ impl<'a> Call<'a> {
             }
             Kind::String => numbers.push(("number", self.n.to_string())),
             Kind::VendorWrite => numbers.push(("offsets", format!("{:#018X}", self.n))),
+            Kind::RoomAdd | Kind::RoomReplace => numbers.push(("format", self.format.to_string())),
             _ => {}
         }
         numbers
@@ -205,6 +265,8 @@ impl<'a> Call<'a> {
             Kind::Edit => &["image", "value"],
             Kind::Add => &["image", "field", "values"],
             Kind::VendorWrite => &["serial", "pieces"],
+            Kind::RoomAdd | Kind::RoomReplace => &["file", "body"],
+            Kind::RoomRemove | Kind::RoomFetch => &["file"],
             _ => &["image"],
         }
     }
@@ -212,10 +274,11 @@ impl<'a> Call<'a> {
     /// The name of the part that the room is for, where the call takes one.
     pub fn room_name(&self) -> Option<&'static str> {
         match self.kind {
-            Kind::Check | Kind::Value | Kind::String => None,
+            Kind::Check | Kind::Value | Kind::String | Kind::RoomFetch => None,
             Kind::List => Some("records"),
             Kind::Entry | Kind::Step => Some("record"),
             Kind::Write | Kind::Edit | Kind::VendorWrite | Kind::Add | Kind::Remove => Some("out"),
+            Kind::RoomAdd | Kind::RoomReplace | Kind::RoomRemove => Some("out"),
             Kind::VendorRead => Some("payload"),
         }
     }
@@ -234,6 +297,7 @@ impl<'a> Call<'a> {
     pub fn on_second(&self, room: &mut [u8], beside: &mut [u8]) -> u64 {
         use second::bytes;
         let (f, e, [first, other, third]) = (self.format, self.edition, self.read);
+        let (form, board) = (self.form, self.board);
         match self.kind {
             Kind::Check => bytes::check(f, e, first),
             Kind::List => bytes::list(f, e, first, room),
@@ -247,6 +311,10 @@ impl<'a> Call<'a> {
             Kind::VendorWrite => bytes::vendor_write(f, e, first, self.n, other, room),
             Kind::Add => bytes::add(f, e, first, other, third, room),
             Kind::Remove => bytes::remove(f, e, first, self.n, room),
+            Kind::RoomAdd => bytes::room_add(form, e, first, board, f, other, room),
+            Kind::RoomReplace => bytes::room_replace(form, e, first, board, f, other, room),
+            Kind::RoomRemove => bytes::room_remove(form, e, first, board, room),
+            Kind::RoomFetch => bytes::room_fetch(form, e, first, board),
         }
     }
 
@@ -254,6 +322,7 @@ impl<'a> Call<'a> {
     pub fn on_library(&self, read: &[Lent; 3], room: &mut Lent, beside: &mut Lent) -> u64 {
         use exports::*;
         let (f, e, n) = (self.format, self.edition, self.n);
+        let (form, board) = (self.form, self.board);
         let (first, first_len) = (read[0].pointer(), read[0].len());
         let (other, other_len) = (read[1].pointer(), read[1].len());
         let (third, third_len) = (read[2].pointer(), read[2].len());
@@ -284,6 +353,16 @@ impl<'a> Call<'a> {
                     f, e, first, first_len, other, other_len, third, third_len, out, out_len,
                 ),
                 Kind::Remove => boardid_remove(f, e, first, first_len, n, out, out_len),
+                Kind::RoomAdd => boardid_room_add(
+                    form, e, first, first_len, board, f, other, other_len, out, out_len,
+                ),
+                Kind::RoomReplace => boardid_room_replace(
+                    form, e, first, first_len, board, f, other, other_len, out, out_len,
+                ),
+                Kind::RoomRemove => {
+                    boardid_room_remove(form, e, first, first_len, board, out, out_len)
+                }
+                Kind::RoomFetch => boardid_room_fetch(form, e, first, first_len, board),
             }
         }
     }

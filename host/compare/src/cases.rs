@@ -8,6 +8,7 @@ mod dates;
 mod decisions;
 mod frame_lengths;
 mod onie;
+mod room;
 mod scope;
 mod sources;
 mod sweeps;
@@ -21,7 +22,7 @@ use crate::frames;
 pub type Group = fn(&mut Comparison);
 
 /// All fixed cases, in groups that can be compared side by side.
-pub const GROUPS: [(&str, Group); 68] = [
+pub const GROUPS: [(&str, Group); 80] = [
     (
         "01, Both sides of each line",
         scope::both_sides_of_each_line,
@@ -104,6 +105,18 @@ pub const GROUPS: [(&str, Group); 68] = [
     ("every length of a field", add_remove::field_lengths),
     ("parts of a field", add_remove::field_parts),
     ("built up and taken down", add_remove::built_up),
+    ("02, machine-room file: known", room::known),
+    ("02, machine-room file: heads", room::heads),
+    ("02, machine-room file: contents", room::contents),
+    ("02, machine-room file: rising", room::rising),
+    ("02, machine-room file: boards", room::boards),
+    ("02, machine-room file: stored bodies", room::stored_bodies),
+    ("02, machine-room file: new bodies", room::new_bodies),
+    ("02, machine-room file: changed", room::changed),
+    ("02, machine-room file: lengths", room::lengths),
+    ("every byte of a room file", room::every_byte),
+    ("bodies as they are checked alone", room::as_checked),
+    ("rooms built up and taken down", room::built_up),
     ("editions alike", sweeps::editions_alike),
     ("every format and edition", sweeps::every_format_and_edition),
     ("every length", sweeps::every_length),

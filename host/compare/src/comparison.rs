@@ -7,6 +7,7 @@ use crate::changes;
 use crate::crash::{self, Input};
 use crate::frames;
 use crate::lent::{filled, Layout, Lent};
+use crate::rooms;
 
 /// How long a record is, in bytes.
 pub const RECORD: usize = 64;
@@ -24,10 +25,10 @@ const ONIE: u32 = 4;
 const SHOWN: usize = 1 << 20;
 
 /// The highest number that a call can give back.
-const HIGHEST: usize = 20;
+const HIGHEST: usize = 23;
 
 /// The numbers that each call can give back (01, Numbers given back; 02), in the order of `NAMES`.
-const CAN_GIVE: [&[usize]; 12] = [
+const CAN_GIVE: [&[usize]; NAMES.len()] = [
     &[1, 2, 3, 4, 5, 6, 7, 8, 9, 10, 11, 16],
     &[1, 2, 3, 4, 5, 6, 7, 8, 9, 10, 11, 12, 16],
     &[1, 2, 3, 4, 5, 6, 7, 8, 9, 10, 11, 12, 13, 16],
@@ -40,6 +41,10 @@ const CAN_GIVE: [&[usize]; 12] = [
     &[1, 2, 12, 16, 18],
     &[1, 2, 3, 4, 5, 6, 7, 8, 9, 10, 11, 12, 13, 14, 16],
     &[1, 2, 3, 4, 5, 6, 7, 8, 9, 10, 11, 12, 13, 14, 16],
+    &[1, 2, 3, 4, 5, 6, 7, 8, 9, 10, 11, 12, 16, 21, 23],
+    &[1, 2, 3, 4, 5, 6, 7, 8, 9, 10, 11, 12, 16, 21, 22],
+    &[1, 2, 3, 4, 5, 6, 7, 8, 9, 10, 11, 12, 16, 21, 22],
+    &[1, 2, 3, 4, 5, 6, 7, 8, 9, 10, 11, 16, 21, 22],
 ];
 
 /// The readings of a record, by number.
@@ -64,7 +69,7 @@ pub struct Tally {
     /// Differences by call, by the number that the library gave back and by the second reader's.
     differing: BTreeMap<(usize, usize, usize), u64>,
     /// Calls by kind and by the number given back, 0 where nothing was refused.
-    pub answers: [[u64; HIGHEST + 1]; 12],
+    pub answers: [[u64; HIGHEST + 1]; NAMES.len()],
     /// Records given, by reading.
     pub readings: [u64; READINGS.len()],
     /// Records given with kind 0.
@@ -95,12 +100,12 @@ impl Tally {
 
     /// The counts as a table: a row for each call, a column for each number given back.
     pub fn table(&self) -> String {
-        let mut table = format!("{:<12}{:>10}", "call", "given");
+        let mut table = format!("{:<13}{:>10}", "call", "given");
         for number in 1..=HIGHEST {
             table += &format!("{number:>8}");
         }
         for (name, row) in NAMES.iter().zip(&self.answers) {
-            table += &format!("\n{name:<12}{:>10}", row[0]);
+            table += &format!("\n{name:<13}{:>10}", row[0]);
             for count in &row[1..] {
                 let shown = match count {
                     0 => "-".to_string(),
@@ -201,7 +206,8 @@ impl Comparison {
     /// Starts the next input. How its parts are lent depends on this input alone.
     pub fn next_input(&mut self, input: Input) {
         crash::now_at(input);
-        let (Input::Case { number, .. } | Input::Generated { number, .. }) = input;
+        let (Input::Case { number, .. } | Input::Generated { number, .. } | Input::Room { number }) =
+            input;
         self.salt = number;
         self.input = input;
         self.tally.inputs += 1;
@@ -294,6 +300,9 @@ impl Comparison {
         if let Some(what) = by_bytes {
             wrong.push(format!("by the image's bytes: {what}"));
         }
+        if let Some(what) = rooms::wrong(call, from_library, &before, lent_room.bytes()) {
+            wrong.push(format!("by the file's bytes: {what}"));
+        }
 
         if !wrong.is_empty() {
             let wrong = wrong.join("\n  ");
@@ -384,15 +393,21 @@ impl Comparison {
     /// it is lent: of a read the payload and the block, of a write the values. Bytes past them stay.
     /// A case of edition 3 is one of edition 4 too.
     pub fn vendor_case(&mut self, what: &str, call: &Call, answer: u64, written: [&[u8]; 2]) {
-        self.vendor_case_in_one(what, call, answer, written);
+        self.front_case(what, call, answer, written);
         if (call.format, call.edition) == (ONIE, 3) {
             let edition = NEWEST;
             let newest = Call { edition, ..*call };
-            self.vendor_case_in_one(what, &newest, answer, written);
+            self.front_case(what, &newest, answer, written);
         }
     }
 
-    fn vendor_case_in_one(&mut self, what: &str, call: &Call, answer: u64, written: [&[u8]; 2]) {
+    /// Makes a room call whose answer is known from a document, and the file that it puts at the front of
+    /// its output. Bytes past it stay.
+    pub fn room_case(&mut self, what: &str, call: &Call, answer: u64, file: &[u8]) {
+        self.front_case(what, call, answer, [file, &[]]);
+    }
+
+    fn front_case(&mut self, what: &str, call: &Call, answer: u64, written: [&[u8]; 2]) {
         let left = self.compared(call);
         let parts = [&left.room, &left.beside].into_iter().zip(written);
         let as_written = parts.clone().all(|(part, front)| part.has_front(front));

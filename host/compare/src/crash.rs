@@ -16,7 +16,12 @@ pub enum Input {
     Case { group: usize, number: u64 },
     /// A generated input of a format.
     Generated { format: u32, number: u64 },
+    /// A generated room file.
+    Room { number: u64 },
 }
+
+/// What stands for room files where other inputs have a format.
+const ROOMS: u64 = 0xF0;
 
 /// The inputs that the threads are at, as format and number in one word; 0 for none.
 static AT: [AtomicU64; 64] = [const { AtomicU64::new(0) }; 64];
@@ -52,6 +57,7 @@ pub fn now_at(input: Input) {
     let (format, number) = match input {
         Input::Case { group, number } => (0, (group as u64) << 40 | number),
         Input::Generated { format, number } => (u64::from(format), number),
+        Input::Room { number } => (ROOMS, number),
     };
     AT[THREAD.get()].store((format + 1) << 56 | number, Ordering::Relaxed);
 }
@@ -107,6 +113,7 @@ impl fmt::Display for Again {
                 group: (number >> 40) as usize,
                 number: number & ((1 << 40) - 1),
             },
+            format if format == ROOMS + 1 => Input::Room { number },
             format => Input::Generated {
                 format: format as u32 - 1,
                 number,
@@ -131,6 +138,13 @@ impl fmt::Display for Input {
                 write!(
                     to,
                     "input {number} of format {format} (again: compare --seed {seed} --format {format} --first {number} --inputs 1)"
+                )
+            }
+            Input::Room { number } => {
+                let seed = SEED.load(Ordering::Relaxed);
+                write!(
+                    to,
+                    "room file {number} (again: compare --seed {seed} --rooms --first {number} --inputs 1)"
                 )
             }
         }

@@ -1,12 +1,12 @@
 //! Compares every export of libboardid.a with the second reader.
 //!
-//!     compare [--seed N] [--inputs N] [--format F] [--first N] [--exact] [--threads N]
+//!     compare [--seed N] [--inputs N] [--format F | --rooms] [--first N] [--exact] [--threads N]
 //!
-//! An input is an image, a field list or a vendor write, and each is put through many calls. Of every
-//! call, the answer and every byte of all lent memory are compared. The fixed cases come first, then N
-//! generated inputs of each format. A generated input depends on the seed, its format and its number
-//! alone, so that `--first` makes any of them again. A run of all formats and of the default size or
-//! more also fails where a number that a call can give back never came up.
+//! An input is an image, a field list, a vendor write or a room file, and each is put through many calls.
+//! Of every call, the answer and every byte of all lent memory are compared. The fixed cases come first,
+//! then N generated inputs of each format and N room files. A generated input depends on the seed, its
+//! format and its number alone, so that `--first` makes any of them again. A run of all formats and room
+//! files and of the default size or more also fails where a number that a call can give back never came up.
 
 mod call;
 mod cases;
@@ -16,6 +16,8 @@ mod crash;
 mod frames;
 mod lent;
 mod plan;
+mod room_plan;
+mod rooms;
 
 use std::process::ExitCode;
 use std::sync::atomic::{AtomicUsize, Ordering};
@@ -26,31 +28,53 @@ use std::time::{Duration, Instant};
 use cases::GROUPS;
 use comparison::{Comparison, Tally};
 use crash::Input;
-use images::image::{Format, FORMATS};
+use images::image::{Format, FORMATS, LONGEST};
 use images::random::Random;
-use images::{damage, fields, generate, vendor};
+use images::{damage, fields, generate, room, vendor};
 use lent::Layout;
 
-/// How many inputs of one format a thread takes at a time.
+/// How many inputs of one format, or room files, a thread takes at a time.
 const CHUNK: u64 = 32;
 
-/// How many inputs of each format a run has by itself.
+/// How many inputs of each format, and room files, a run has by itself.
 const DEFAULT: u64 = 20_000;
 
 struct Options {
     seed: u64,
     inputs: u64,
     first: Option<u64>,
-    formats: Vec<Format>,
+    sources: Vec<Source>,
     layout: Layout,
     threads: usize,
 }
 
-/// What a thread does at a time: one group of fixed cases, or some inputs of one format.
+/// What generated inputs are: images and what is written as one, of a format, or room files.
+#[derive(Clone, Copy, PartialEq, Eq)]
+enum Source {
+    Format(Format),
+    Rooms,
+}
+
+impl Source {
+    fn all() -> Vec<Source> {
+        let formats = FORMATS.into_iter().map(Source::Format);
+        formats.chain([Source::Rooms]).collect()
+    }
+
+    /// The format's number. Room files have one that is no format's.
+    fn number(self) -> u32 {
+        match self {
+            Source::Format(format) => format.number(),
+            Source::Rooms => 0,
+        }
+    }
+}
+
+/// What a thread does at a time: one group of fixed cases, or some inputs of one source.
 #[derive(Clone, Copy)]
 enum Task {
     Fixed { group: usize },
-    Generated { format: Format, from: u64, to: u64 },
+    Generated { source: Source, from: u64, to: u64 },
 }
 
 /// What came of a task.
@@ -66,7 +90,7 @@ fn main() -> ExitCode {
         Ok(options) => options,
         Err(wrong) => {
             eprintln!("compare: {wrong}");
-            eprintln!("usage: compare [--seed N] [--inputs N] [--format 1|2|3|4] [--first N] [--exact] [--threads N]");
+            eprintln!("usage: compare [--seed N] [--inputs N] [--format 1|2|3|4 | --rooms] [--first N] [--exact] [--threads N]");
             return ExitCode::from(2);
         }
     };
@@ -118,7 +142,8 @@ fn main() -> ExitCode {
 
 /// Whether a run is large enough that every call must have given back every number that it can.
 fn is_whole(options: &Options) -> bool {
-    options.first.is_none() && options.inputs >= DEFAULT && options.formats.len() == FORMATS.len()
+    let has_all = options.sources == Source::all();
+    options.first.is_none() && options.inputs >= DEFAULT && has_all
 }
 
 fn options() -> Result<Options, String> {
@@ -126,7 +151,7 @@ fn options() -> Result<Options, String> {
         seed: 1,
         inputs: DEFAULT,
         first: None,
-        formats: FORMATS.to_vec(),
+        sources: Source::all(),
         layout: Layout::Guarded,
         threads: thread::available_parallelism().map_or(1, |threads| threads.get()),
     };
@@ -142,14 +167,13 @@ fn options() -> Result<Options, String> {
             "--first" => options.first = Some(number()?),
             "--threads" => options.threads = number()?.clamp(1, 64) as usize,
             "--exact" => options.layout = Layout::Exact,
+            "--rooms" => options.sources = vec![Source::Rooms],
             "--format" => {
                 let asked = number()?;
-                options
-                    .formats
-                    .retain(|format| u64::from(format.number()) == asked);
-                if options.formats.is_empty() {
-                    return Err(format!("there is no format {asked}"));
-                }
+                let mut formats = FORMATS.into_iter();
+                let format = formats.find(|format| u64::from(format.number()) == asked);
+                let format = format.ok_or(format!("there is no format {asked}"))?;
+                options.sources = vec![Source::Format(format)];
             }
             _ => return Err(format!("{word} is no option")),
         }
@@ -157,8 +181,8 @@ fn options() -> Result<Options, String> {
     Ok(options)
 }
 
-/// The fixed cases, unless the run starts at a given input, and then the inputs of all formats in
-/// turn.
+/// The fixed cases, unless the run starts at a given input, and then the inputs of all formats and the
+/// room files in turn.
 fn tasks(options: &Options) -> Vec<Task> {
     let mut tasks = Vec::new();
     if options.first.is_none() {
@@ -168,8 +192,8 @@ fn tasks(options: &Options) -> Vec<Task> {
     let end = first + options.inputs;
     for from in (first..end).step_by(CHUNK as usize) {
         let to = end.min(from + CHUNK);
-        for &format in &options.formats {
-            tasks.push(Task::Generated { format, from, to });
+        for &source in &options.sources {
+            tasks.push(Task::Generated { source, from, to });
         }
     }
     tasks
@@ -214,15 +238,22 @@ fn perform(options: &Options, task: usize, what: Task) -> Outcome {
             let (_, cases) = GROUPS[group];
             cases(&mut compare);
         }
-        Task::Generated { format, from, to } => {
+        Task::Generated { source, from, to } => {
             for number in from..to {
-                let mut random = Random::of_input(options.seed, format.number(), number);
-                let input = Input::Generated {
-                    format: format.number(),
-                    number,
-                };
-                compare.next_input(input);
-                generated(&mut compare, &mut random, format);
+                let mut random = Random::of_input(options.seed, source.number(), number);
+                match source {
+                    Source::Format(format) => {
+                        compare.next_input(Input::Generated {
+                            format: format.number(),
+                            number,
+                        });
+                        generated(&mut compare, &mut random, format);
+                    }
+                    Source::Rooms => {
+                        compare.next_input(Input::Room { number });
+                        generated_room(&mut compare, &mut random);
+                    }
+                }
             }
         }
     }
@@ -294,4 +325,29 @@ fn generated(compare: &mut Comparison, random: &mut Random, format: Format) {
             plan::on_writing(compare, random, &writing);
         }
     }
+}
+
+/// Draws one room file and makes the calls on it.
+fn generated_room(compare: &mut Comparison, random: &mut Random) {
+    let file = match random.below(1_000) {
+        0..=3 => {
+            let mut file = room::file(&room::large(random));
+            if random.once_in(8) {
+                file.resize(LONGEST + 1, 0x00);
+            }
+            file
+        }
+        4 | 5 => {
+            let mut file = room::file(&room::boards(random));
+            file.truncate(400);
+            return room_plan::on_beginnings(compare, &file);
+        }
+        6..=29 => room::noise(random),
+        30..=499 => room::file(&room::boards(random)),
+        _ => {
+            let boards = room::boards(random);
+            room::damaged(random, boards)
+        }
+    };
+    room_plan::on_room(compare, random, &file);
 }

@@ -619,7 +619,7 @@ fn block_room(random: &mut Random) -> usize {
 }
 
 /// The length of an output: near what is asked for, the longest that there is, or one byte more.
-fn output_room(random: &mut Random, near: usize) -> usize {
+pub fn output_room(random: &mut Random, near: usize) -> usize {
     match random.below(64) {
         0 => LONGEST,
         1 => LONGEST + 1,

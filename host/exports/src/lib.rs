@@ -1,4 +1,4 @@
-//! The twelve calls of libboardid.a, as C declares them.
+//! The sixteen calls of libboardid.a, as C declares them.
 //!
 //! A slice goes out as a pointer and a length, and a length of 0 goes with any pointer. Every call
 //! is safe where its pointers are good for their lengths and where what it writes overlaps nothing
@@ -118,5 +118,49 @@ extern "C" {
         n: u64,
         out: *mut u8,
         out_length: usize,
+    ) -> u64;
+
+    pub fn boardid_room_add(
+        form: u32,
+        edition: u32,
+        file: *const u8,
+        file_length: usize,
+        board: u32,
+        format: u32,
+        body: *const u8,
+        body_length: usize,
+        out: *mut u8,
+        out_length: usize,
+    ) -> u64;
+
+    pub fn boardid_room_replace(
+        form: u32,
+        edition: u32,
+        file: *const u8,
+        file_length: usize,
+        board: u32,
+        format: u32,
+        body: *const u8,
+        body_length: usize,
+        out: *mut u8,
+        out_length: usize,
+    ) -> u64;
+
+    pub fn boardid_room_remove(
+        form: u32,
+        edition: u32,
+        file: *const u8,
+        file_length: usize,
+        board: u32,
+        out: *mut u8,
+        out_length: usize,
+    ) -> u64;
+
+    pub fn boardid_room_fetch(
+        form: u32,
+        edition: u32,
+        file: *const u8,
+        file_length: usize,
+        board: u32,
     ) -> u64;
 }

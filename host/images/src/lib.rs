@@ -1,5 +1,5 @@
-//! Images, field lists and vendor writes, generated from a seed: good ones, damaged ones, and the
-//! largest that there are.
+//! Images, field lists, vendor writes and room files, generated from a seed: good ones, damaged ones,
+//! and the largest that there are.
 //!
 //! This is written from the scope document and the change requests, and shares no code with the
 //! library or the second reader.
@@ -13,6 +13,7 @@ pub mod generate;
 pub mod image;
 pub mod onie;
 pub mod random;
+pub mod room;
 pub mod tiny;
 pub mod vendor;
 pub mod vpd;

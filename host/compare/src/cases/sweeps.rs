@@ -4,6 +4,7 @@ use images::fields::List;
 use images::generate::{kept, named, offered, valid};
 use images::image::{seal, Entry, Format, Image, FORMATS, LONGEST};
 use images::random::Random;
+use images::room::{file, Board};
 use images::{damage, fields, vendor};
 
 use super::onie::SWITCH;
@@ -28,7 +29,7 @@ fn small_images() -> [(Format, Vec<u8>); 4] {
     ]
 }
 
-/// All twelve calls with every format and edition, known or not, on images of every format.
+/// All sixteen calls with every format and edition, known or not, on images of every format, in room files too.
 pub fn every_format_and_edition(compare: &mut Comparison) {
     let mut fields = List::default();
     fields.add(1, b"SKU", b"A7");
@@ -70,6 +71,8 @@ pub fn every_format_and_edition(compare: &mut Comparison) {
                 u32::MAX,
             ] {
                 compare.next_case();
+                let none = file(&[]);
+                let one = file(&[Board::new(7, format as u8, &image)]);
                 let check = Call::check(format, edition, &image);
                 compare.call(&check);
                 compare.call(&check.list(20 * RECORD));
@@ -88,6 +91,12 @@ pub fn every_format_and_edition(compare: &mut Comparison) {
                     compare.call(&Call::vendor_write(
                         format, edition, b"S", 0x80, &pieces, room,
                     ));
+                    compare
+                        .call(&Call::fetch(1, edition, &none, 7).add_board(format, &image, room));
+                    let fetch = Call::fetch(1, edition, &one, 7);
+                    compare.call(&fetch.replace_board(format, &image, room));
+                    compare.call(&fetch.remove_board(room));
+                    compare.call(&fetch);
                 }
             }
         }
