@@ -1,26 +1,29 @@
 /*
- * A fuzz harness over the twelve calls of libboardid.a, for libFuzzer.
+ * A fuzz harness over the sixteen calls of libboardid.a, for libFuzzer.
  *
  * It needs no second implementation: it holds the calls to what document 01 says of all of them,
  * and to each other. A call that is refused leaves lent memory as it was, an accepted write or edit
  * is read back, an add or a removal leaves every other entry byte for byte, a list is what its entries say one by one, each frame ends where the next entry or
- * the end begins, a date is a day, a payload is what the vendor extensions of a list hold, and so on. Where something does not hold the program stops.
+ * the end begins, a date is a day, a payload is what the vendor extensions of a list hold, a room file is what its rows say and its bodies are what check accepts, and so on. Where something
+ * does not hold the program stops.
  *
  * An input is seven bytes, then the second part, then the first part:
  *
  *   0     the call: check, list, entry, value, string, step, write, edit, vendor read, vendor write,
- *         add, remove
- *   1     the format, by number in FORMATS
+ *         add, remove, room add, room replace, room remove, room fetch
+ *   1     the format, by number in FORMATS; of a room call, the new body's
  *   2     the edition, by number in EDITIONS
- *   3     n, or by number in NUMBERS from F0h on; the offsets of a vendor write are a multiple of it
+ *   3     n, or by number in NUMBERS from F0h on; the offsets of a vendor write are a multiple of it.
+ *         A room call's board is that of row n / 3 or one more or less, or by number in NUMBERS
  *   4     bits 0 to 2: how much memory is lent, by number in `room_of`; bit 3: the image is given
- *         right checks first, and of ONIE the right length; bits 4 to 7: how many bytes of a walk
- *         are cut off, or how long a block is, by number in BLOCKS, or a field, in FIELDS
+ *         right checks first, and of ONIE the right length, and a room file the right head, rows
+ *         and bodies; bits 4 to 7: how many bytes of a walk are cut off, or how long a block is, by
+ *         number in BLOCKS, or a field, in FIELDS, or the form that a room call is told, in FORMS
  *   5, 6  the length of the second part, low byte first
  *
- * The first part is the image, the fields of a write, or the pieces of a vendor write. The second
- * part is the new value of an edit, the values of a write, the serial of a vendor write, or the field
- * of an add with the values after it.
+ * The first part is the image, the room file, the fields of a write, or the pieces of a vendor write.
+ * The second part is the new value of an edit, the values of a write, the serial of a vendor write, the
+ * field of an add with the values after it, or the new body of a room call.
  */
 
 #define _DEFAULT_SOURCE /* MAP_ANONYMOUS */
@@ -59,6 +62,16 @@ uint64_t boardid_add(uint32_t format, uint32_t edition, const uint8_t *image, si
                      size_t values_len, uint8_t *out, size_t out_len);
 uint64_t boardid_remove(uint32_t format, uint32_t edition, const uint8_t *image, size_t image_len,
                         uint64_t n, uint8_t *out, size_t out_len);
+uint64_t boardid_room_add(uint32_t form, uint32_t edition, const uint8_t *file, size_t file_len,
+                          uint32_t board, uint32_t format, const uint8_t *body, size_t body_len,
+                          uint8_t *out, size_t out_len);
+uint64_t boardid_room_replace(uint32_t form, uint32_t edition, const uint8_t *file, size_t file_len,
+                              uint32_t board, uint32_t format, const uint8_t *body,
+                              size_t body_len, uint8_t *out, size_t out_len);
+uint64_t boardid_room_remove(uint32_t form, uint32_t edition, const uint8_t *file, size_t file_len,
+                             uint32_t board, uint8_t *out, size_t out_len);
+uint64_t boardid_room_fetch(uint32_t form, uint32_t edition, const uint8_t *file, size_t file_len,
+                            uint32_t board);
 
 enum {
     CHECK,
@@ -73,6 +86,10 @@ enum {
     VENDOR_WRITE,
     ADD,
     REMOVE,
+    ROOM_ADD,
+    ROOM_REPLACE,
+    ROOM_REMOVE,
+    ROOM_FETCH,
     CALLS
 };
 
@@ -82,6 +99,8 @@ enum {
 #define WALK 16u
 #define BLOCK 48u
 #define PREFIX 5u
+#define HEAD 8u
+#define ROW 8u
 
 static const uint32_t FORMATS[8] = {1, 2, 3, 0, 4, 257, 260, UINT32_MAX};
 static const uint32_t EDITIONS[8] = {1, 2, 0, 3, 4, 5, 260, UINT32_MAX};
@@ -89,6 +108,7 @@ static const uint32_t EDITIONS[8] = {1, 2, 0, 3, 4, 5, 260, UINT32_MAX};
 static const uint8_t BLOCKS[16] = {48, 48, 48, 47, 0, 49, 60, 96, 1, 4, 16, 32, 44, 46, 64, 95};
 #define LONGEST_BLOCK 96u
 static const uint8_t FIELDS[16] = {20, 20, 20, 20, 20, 20, 20, 20, 19, 0, 21, 40, 1, 16, 39, 60};
+static const uint32_t FORMS[16] = {1, 1, 1, 1, 1, 1, 1, 1, 1, 1, 1, 1, 0, 2, 257, UINT32_MAX};
 static const uint64_t NUMBERS[16] = {
     0xF0, 0xFF, 0x100, 0x101, 0x7FFF, 0xFFFF, 0x10000, 0x7FFFFFFF,
     0x80000000, 0xFFFFFFFF, 0x100000000, 0x100000001, 1ull << 58, 1ull << 63, UINT64_MAX - 1,
@@ -175,12 +195,14 @@ static int same(const uint8_t *a, const uint8_t *b, size_t len) {
 /* What one input asks for. */
 struct request {
     unsigned call;
-    uint32_t format, edition;
+    uint32_t format, edition, form, board;
     uint64_t n;
     unsigned room_mode, cut;
     const uint8_t *first, *other, *third;
     size_t first_len, other_len, third_len;
 };
+
+static int is_of_room(const struct request *r) { return r->call >= ROOM_ADD; }
 
 /* The content of written memory before a call. */
 static uint8_t *filled(size_t len) {
@@ -247,7 +269,19 @@ static uint64_t make(const struct request *r, uint8_t *out, size_t out_len, uint
             given = boardid_add(f, e, a.bytes, a.len, b.bytes, b.len, c.bytes, c.len, o.bytes,
                                 o.len);
             break;
-        default: given = boardid_remove(f, e, a.bytes, a.len, r->n, o.bytes, o.len); break;
+        case REMOVE: given = boardid_remove(f, e, a.bytes, a.len, r->n, o.bytes, o.len); break;
+        case ROOM_ADD:
+            given = boardid_room_add(r->form, e, a.bytes, a.len, r->board, f, b.bytes, b.len,
+                                     o.bytes, o.len);
+            break;
+        case ROOM_REPLACE:
+            given = boardid_room_replace(r->form, e, a.bytes, a.len, r->board, f, b.bytes, b.len,
+                                         o.bytes, o.len);
+            break;
+        case ROOM_REMOVE:
+            given = boardid_room_remove(r->form, e, a.bytes, a.len, r->board, o.bytes, o.len);
+            break;
+        default: given = boardid_room_fetch(r->form, e, a.bytes, a.len, r->board); break;
         }
         HOLDS(same(a.bytes, r->first, a.len));
         HOLDS(same(b.bytes, r->other, b.len));
@@ -264,8 +298,9 @@ static uint64_t make(const struct request *r, uint8_t *out, size_t out_len, uint
         } else {
             HOLDS(same(w.bytes, beside, w.len));
         }
-        if (refusal(given) == 0 && (r->call == VENDOR_READ || r->call == VENDOR_WRITE)) {
-            /* Bytes past the payload or the values stay. */
+        int stays = r->call == VENDOR_READ || r->call == VENDOR_WRITE;
+        if (refusal(given) == 0 && (stays || (is_of_room(r) && r->call != ROOM_FETCH))) {
+            /* Bytes past the payload, the values or the new file stay. */
             uint64_t len = count(given);
             HOLDS(len <= o.len && same(o.bytes + len, before + len, o.len - len));
         }
@@ -287,6 +322,13 @@ static uint64_t make(const struct request *r, uint8_t *out, size_t out_len, uint
     counted(r->call, answer);
 
     unsigned number = refusal(answer);
+    if (is_of_room(r)) {
+        /* A new body's places count in it, all others in the file. */
+        size_t most = r->first_len > r->other_len ? r->first_len : r->other_len;
+        HOLDS(number <= 23 && (number == 0 || place(answer) <= most));
+        HOLDS(number != 0 || r->call == ROOM_FETCH || (answer & UINT32_MAX) == 0);
+        return answer;
+    }
     int of_any_format = r->call != STRING && r->call != VENDOR_READ && r->call != VENDOR_WRITE;
     if (of_any_format && (r->call != STEP || beside_len == WALK)) {
         /* A format that there is, and an edition that there is not. */
@@ -802,6 +844,131 @@ static void hold_vendor_write(const struct request *r, uint64_t answer, const ui
     hold_block(payload, block);
 }
 
+/* A board of a room file: its row, and where its body lies. */
+struct board {
+    uint32_t number;
+    uint32_t format;
+    size_t at, len;
+};
+
+/* The boards of a room file, or NULL where its head or its contents are wrong. */
+static struct board *boards_of(const uint8_t *file, size_t len, size_t *boards) {
+    static const uint8_t start[4] = {0x52, 0x4D, 0x01, 0x00};
+    *boards = 0;
+    if (len < HEAD || !same(file, start, 4) || file[6] != 0 || file[7] != 0) return NULL;
+    size_t count = (size_t)file[4] << 8 | file[5], at = HEAD + count * ROW;
+    if (at > len) return NULL;
+    struct board *all = malloc(count * sizeof *all + 1);
+    int right = 1;
+    for (size_t i = 0; i < count; i++) {
+        const uint8_t *row = file + HEAD + i * ROW;
+        all[i].number = (uint32_t)row[0] << 24 | (uint32_t)row[1] << 16 | row[2] << 8 | row[3];
+        all[i].format = row[4];
+        all[i].at = at;
+        all[i].len = (size_t)row[6] << 8 | row[7];
+        at += all[i].len;
+        if (row[5] != 0 || all[i].len == 0) right = 0;
+        if (i > 0 && all[i].number <= all[i - 1].number) right = 0;
+    }
+    if (right && at == len) {
+        *boards = count;
+        return all;
+    }
+    free(all);
+    return NULL;
+}
+
+/* What a room call is refused for after 21 and before 12: a board that is there or not, a stored body, or
+   the new one. 0 where for nothing. */
+static uint64_t board_refusal(const struct request *r, const struct board *all, size_t boards,
+                              int there) {
+    if (r->call == ROOM_ADD && there) return 23ull << 59;
+    if (r->call != ROOM_ADD && !there) return 22ull << 59;
+    for (size_t i = 0; i < boards; i++) {
+        uint64_t own = boardid_check(all[i].format, r->edition, r->first + all[i].at, all[i].len);
+        if (refusal(own) != 0) return own + all[i].at;
+    }
+    if (r->call != ROOM_ADD && r->call != ROOM_REPLACE) return 0;
+    uint64_t own = boardid_check(r->format, r->edition, r->other, r->other_len);
+    return refusal(own) != 0 ? own : 0;
+}
+
+/* The file that a room call made, of so many boards below its own: every other row and body as it was, and
+   what is done can be undone. */
+static void hold_made_room(const struct request *r, const uint8_t *out, uint64_t len,
+                           const struct board *old, size_t before, size_t below) {
+    size_t boards, added = r->call == ROOM_ADD, removed = r->call == ROOM_REMOVE;
+    struct board *all = boards_of(out, len, &boards);
+    HOLDS(all != NULL && boards == before + added - removed);
+    for (size_t i = 0; i < before; i++) {
+        if (i == below && !added) continue;
+        const struct board *now = all + (i < below ? i : i + added - removed);
+        HOLDS(now->number == old[i].number && now->format == old[i].format);
+        HOLDS(now->len == old[i].len && same(out + now->at, r->first + old[i].at, now->len));
+        /* One by one is as slow as it sounds: a few are enough. */
+        if (i < 4 || i + 2 > before) {
+            HOLDS(boardid_room_fetch(1, r->edition, out, len, now->number) ==
+                  ((uint64_t)now->len << 32 | now->at));
+        }
+    }
+    uint64_t fetched = boardid_room_fetch(1, r->edition, out, len, r->board), back;
+    uint8_t *was = malloc(r->first_len);
+    if (removed) {
+        HOLDS(fetched == 22ull << 59);
+        back = boardid_room_add(1, r->edition, out, len, r->board, old[below].format,
+                                r->first + old[below].at, old[below].len, was, r->first_len);
+    } else {
+        const struct board *new = all + below;
+        HOLDS(new->number == r->board && new->format == r->format && new->len == r->other_len);
+        HOLDS(same(out + new->at, r->other, new->len));
+        HOLDS(fetched == ((uint64_t)new->len << 32 | new->at));
+        back = added ? boardid_room_remove(1, r->edition, out, len, r->board, was, r->first_len)
+                     : boardid_room_replace(1, r->edition, out, len, r->board, old[below].format,
+                                            r->first + old[below].at, old[below].len, was,
+                                            r->first_len);
+    }
+    HOLDS(back == (uint64_t)r->first_len << 32 && same(was, r->first, r->first_len));
+    free(was);
+    free(all);
+}
+
+/* A room call: it is about the edition, the lengths, the contents, the boards, what check says of each body,
+   and the room, in this order. */
+static void hold_room(const struct request *r, uint64_t answer, const uint8_t *out,
+                      size_t out_len) {
+    if (r->edition < 1 || r->edition > NEWEST) {
+        HOLDS(answer == 1ull << 59);
+        return;
+    }
+    if (r->first_len > LONGEST || (r->call != ROOM_FETCH && out_len > LONGEST)) {
+        HOLDS(answer == 2ull << 59);
+        return;
+    }
+    size_t boards, below = 0;
+    struct board *all = r->form == 1 ? boards_of(r->first, r->first_len, &boards) : NULL;
+    if (all == NULL) {
+        HOLDS(answer == 21ull << 59);
+        return;
+    }
+    while (below < boards && all[below].number < r->board) below++;
+    int there = below < boards && all[below].number == r->board;
+    uint64_t expected = board_refusal(r, all, boards, there), len = r->first_len;
+    if (r->call == ROOM_ADD) len += ROW + r->other_len;
+    if (r->call == ROOM_REPLACE && there) len = len + r->other_len - all[below].len;
+    if (r->call == ROOM_REMOVE && there) len -= ROW + all[below].len;
+    if (expected != 0) {
+        HOLDS(answer == expected);
+    } else if (r->call == ROOM_FETCH) {
+        HOLDS(answer == ((uint64_t)all[below].len << 32 | all[below].at));
+    } else if (len > out_len) {
+        HOLDS(answer == 12ull << 59);
+    } else {
+        HOLDS(answer == len << 32);
+        hold_made_room(r, out, len, all, boards, below);
+    }
+    free(all);
+}
+
 /* How much memory is lent to be written, by the number of a mode and what just suffices. */
 static size_t room_of(unsigned mode, size_t enough) {
     switch (mode) {
@@ -867,6 +1034,47 @@ static void seal_payload(uint8_t *image, size_t len) {
     for (int i = 0; i < 4; i++) image[places[count - 4 + i]] = (uint8_t)(check >> (24 - 8 * i));
 }
 
+/* Gives a room file a right head, rows that rise, and bodies that fill it and have right checks. */
+static void seal_room(uint8_t *file, size_t len) {
+    static const uint8_t start[4] = {0x52, 0x4D, 0x01, 0x00};
+    if (len < HEAD) return;
+    memcpy(file, start, 4);
+    file[6] = file[7] = 0;
+    size_t count = (size_t)file[4] << 8 | file[5], most = (len - HEAD) / (ROW + 1);
+    if (count > most) count = most;
+    /* A file without boards is a head alone. */
+    if (count == 0 && most > 0) count = 1;
+    file[4] = (uint8_t)(count >> 8);
+    file[5] = (uint8_t)count;
+    size_t at = HEAD + count * ROW;
+    uint64_t last = 0;
+    for (size_t i = 0; i < count; i++) {
+        uint8_t *row = file + HEAD + i * ROW;
+        uint64_t number = (uint64_t)row[0] << 24 | (uint64_t)row[1] << 16 | row[2] << 8 | row[3];
+        size_t left = len - at - (count - i - 1), body = (size_t)row[6] << 8 | row[7];
+        if (i > 0 && number <= last) number = last + 1;
+        if (body == 0) body = 1;
+        if (body > left || i + 1 == count) body = left;
+        for (int k = 0; k < 4; k++) row[k] = (uint8_t)(number >> (24 - 8 * k));
+        row[5] = 0;
+        row[6] = (uint8_t)(body >> 8);
+        row[7] = (uint8_t)body;
+        seal(row[4], file + at, body);
+        at += body;
+        last = number;
+    }
+}
+
+/* The board of a room call: that of a row, one more or one less, or another number. */
+static uint32_t board_of(uint8_t n, const uint8_t *file, size_t len) {
+    size_t count = len < HEAD + ROW ? 0 : (size_t)file[4] << 8 | file[5];
+    if (n >= 0xF0 || count == 0) return (uint32_t)NUMBERS[n % 16];
+    if (count > (len - HEAD) / ROW) count = (len - HEAD) / ROW;
+    const uint8_t *row = file + HEAD + n / 3 % count * ROW;
+    uint32_t number = (uint32_t)row[0] << 24 | (uint32_t)row[1] << 16 | row[2] << 8 | row[3];
+    return n % 3 == 0 ? number : n % 3 == 1 ? number + 1 : number - 1;
+}
+
 int LLVMFuzzerTestOneInput(const uint8_t *data, size_t size) {
     if (size < 7) return 0;
     if (arenas[0] == NULL) make_arenas();
@@ -890,7 +1098,13 @@ int LLVMFuzzerTestOneInput(const uint8_t *data, size_t size) {
     r.first_len = rest - r.other_len;
     uint8_t *first = malloc(r.first_len + 1);
     memcpy(first, r.other + r.other_len, r.first_len);
-    int on_image = r.call != WRITE && r.call != VENDOR_WRITE;
+    uint8_t *body = malloc(r.other_len + 1);
+    memcpy(body, r.other, r.other_len);
+    int on_image = r.call != WRITE && r.call != VENDOR_WRITE && !is_of_room(&r);
+    if ((data[4] & 8) != 0 && is_of_room(&r)) {
+        seal_room(first, r.first_len);
+        seal(r.format, body, r.other_len);
+    }
     if ((data[4] & 8) != 0 && on_image) {
         if (r.call == VENDOR_READ) seal_payload(first, r.first_len);
         seal(r.format, first, r.first_len);
@@ -902,6 +1116,12 @@ int LLVMFuzzerTestOneInput(const uint8_t *data, size_t size) {
         r.third = r.other + field;
         r.third_len = r.other_len - field;
         r.other_len = field;
+    }
+    if (is_of_room(&r)) {
+        r.other = body;
+        r.form = FORMS[r.cut];
+        r.board = board_of(data[3], first, r.first_len);
+        r.cut = 0;
     }
     /* Offsets that differ in every byte. */
     if (r.call == VENDOR_WRITE) r.n *= 0x9E3779B97F4A7C15u;
@@ -924,6 +1144,7 @@ int LLVMFuzzerTestOneInput(const uint8_t *data, size_t size) {
         if (r.call == VENDOR_READ) hold_vendor_read(&r, answer, out, roomy, block);
         if (r.call == VENDOR_WRITE) hold_vendor_write(&r, answer, out, roomy);
         if (r.call == ADD || r.call == REMOVE) hold_change(&r, answer, out, roomy);
+        if (is_of_room(&r)) hold_room(&r, answer, out, roomy);
     }
     size_t room = room_of(r.room_mode, enough);
     free(out);
@@ -946,10 +1167,15 @@ int LLVMFuzzerTestOneInput(const uint8_t *data, size_t size) {
     case VENDOR_WRITE: hold_vendor_write(&r, answer, out, room); break;
     case ADD:
     case REMOVE: hold_change(&r, answer, out, room); break;
+    case ROOM_ADD:
+    case ROOM_REPLACE:
+    case ROOM_REMOVE:
+    case ROOM_FETCH: hold_room(&r, answer, out, room); break;
     default: break;
     }
     if (on_image) hold_image(&r);
     free(out);
+    free(body);
     free(first);
     return 0;
 }

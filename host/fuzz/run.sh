@@ -1,7 +1,7 @@
 #!/usr/bin/env bash
 # Fuzzes libboardid.a for so many seconds (default 60):  host/fuzz/run.sh [SECONDS [CALL [WORDS FOR LIBFUZZER...]]]
-# CALL is one of check, list, entry, value, string, step, write, edit, vendor_read, vendor_write, add, remove, or all
-# (default), where each input names its own.
+# CALL is one of check, list, entry, value, string, step, write, edit, vendor_read, vendor_write, add, remove, room_add,
+# room_replace, room_remove, room_fetch, or all (default), where each input names its own.
 # Needs clang with libFuzzer and the address sanitizer (Debian: clang and libclang-rt-14-dev).
 # The folder of libboardid.a is BOARDID_LIB, else target/staticlib of the repository. What is found is kept in
 # host/fuzz/target/CALL: new inputs in found/, an input that stopped the program beside the log.
@@ -16,7 +16,8 @@ shift $(($# < 2 ? $# : 2))
 only=()
 if [ "$call" != all ]; then
     number=0
-    for name in check list entry value string step write edit vendor_read vendor_write add remove; do
+    for name in check list entry value string step write edit vendor_read vendor_write add remove \
+        room_add room_replace room_remove room_fetch; do
         [ "$name" != "$call" ] || only=("-DONLY=$number")
         number=$((number + 1))
     done
