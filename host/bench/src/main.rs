@@ -2,9 +2,9 @@
 //!
 //!     bench [--seconds N] [--edition E]
 //!
-//! The calls are made with edition 2, and those of ONIE with edition 3, or all with the edition given: from
-//! edition 4 on, records have the lengths of their frames. Images of a format that it does not have are left
-//! out. Each row is timed for N seconds (default 0.5), library and second reader in turn, and gives the
+//! The calls are made with edition 2, and those of ONIE and of a room with ONIE boards with edition 3, or all with
+//! the edition given: from edition 4 on, records have the lengths of their frames. Images and rooms of a format
+//! that it does not have are left out. Each row is timed for N seconds (default 0.5), library and second reader in turn, and gives the
 //! median time of a round. Buffers are made before the clock starts and are not cleared between calls.
 
 mod subjects;
@@ -13,7 +13,7 @@ use std::hint::black_box;
 use std::process::ExitCode;
 use std::time::{Duration, Instant};
 
-use subjects::{Board, Subject};
+use subjects::{Board, Room, Subject};
 
 const RECORD: usize = 64;
 const BLOCK: usize = 48;
@@ -22,20 +22,22 @@ const BLOCK: usize = 48;
 const WRITE: &str = "write";
 const VENDOR_READ: &str = "vendor read";
 const VENDOR_WRITE: &str = "vendor write";
+const ROOM_FETCH: &str = "room fetch";
+const ROOM_REMOVE: &str = "room remove";
 
-/// A call with format and edition on one board, into memory that is lent for it: the answer.
-type Call = fn(u32, u32, &Board, &mut [u8]) -> u64;
+/// A call with format and edition on one board or room, into memory that is lent for it: the answer.
+type Call<T> = fn(u32, u32, &T, &mut [u8]) -> u64;
 
 /// A row's call: its name, how much memory it is lent, and how library and second reader make it.
-struct Timed {
+struct Timed<T> {
     name: &'static str,
-    room: fn(&Board) -> usize,
-    library: Call,
-    second: Call,
+    room: fn(&T) -> usize,
+    library: Call<T>,
+    second: Call<T>,
 }
 
 // The pointers and lengths of the library's calls come from slices, and `out` overlaps none of them.
-const CALLS: [Timed; 9] = [
+const CALLS: [Timed<Board>; 9] = [
     Timed {
         name: "check",
         room: |_| 0,
@@ -218,8 +220,96 @@ const CALLS: [Timed; 9] = [
     },
 ];
 
+// The format of a room call is that of its new body.
+const ROOM_CALLS: [Timed<Room>; 4] = [
+    Timed {
+        name: ROOM_FETCH,
+        room: |_| 0,
+        library: |_, edition, room, _| {
+            let (file, length) = (room.file.as_ptr(), room.file.len());
+            unsafe { exports::boardid_room_fetch(1, edition, file, length, room.fetched) }
+        },
+        second: |_, edition, room, _| {
+            second::bytes::room_fetch(1, edition, &room.file, room.fetched)
+        },
+    },
+    Timed {
+        name: "room add",
+        room: |room| room.with_new,
+        library: |format, edition, room, out| {
+            let (file, length) = (room.file.as_ptr(), room.file.len());
+            let (body, body_length) = (room.body.as_ptr(), room.body.len());
+            let (out, out_length) = (out.as_mut_ptr(), out.len());
+            unsafe {
+                exports::boardid_room_add(
+                    1,
+                    edition,
+                    file,
+                    length,
+                    room.new,
+                    format,
+                    body,
+                    body_length,
+                    out,
+                    out_length,
+                )
+            }
+        },
+        second: |format, edition, room, out| {
+            second::bytes::room_add(1, edition, &room.file, room.new, format, &room.body, out)
+        },
+    },
+    Timed {
+        name: "room replace",
+        room: |room| room.with_replaced,
+        library: |format, edition, room, out| {
+            let (file, length) = (room.file.as_ptr(), room.file.len());
+            let (body, body_length) = (room.body.as_ptr(), room.body.len());
+            let (out, out_length) = (out.as_mut_ptr(), out.len());
+            unsafe {
+                exports::boardid_room_replace(
+                    1,
+                    edition,
+                    file,
+                    length,
+                    room.removed,
+                    format,
+                    body,
+                    body_length,
+                    out,
+                    out_length,
+                )
+            }
+        },
+        second: |format, edition, room, out| {
+            let (file, body) = (&room.file, &room.body);
+            second::bytes::room_replace(1, edition, file, room.removed, format, body, out)
+        },
+    },
+    Timed {
+        name: ROOM_REMOVE,
+        room: |room| room.without,
+        library: |_, edition, room, out| {
+            let (file, length) = (room.file.as_ptr(), room.file.len());
+            let (out, out_length) = (out.as_mut_ptr(), out.len());
+            let board = room.removed;
+            unsafe {
+                exports::boardid_room_remove(1, edition, file, length, board, out, out_length)
+            }
+        },
+        second: |_, edition, room, out| {
+            second::bytes::room_remove(1, edition, &room.file, room.removed, out)
+        },
+    },
+];
+
+/// Whether a room has a row of a call. In a full one nothing is added or replaced.
+fn room_has_row(room: &Room, timed: &Timed<Room>) -> bool {
+    matches!(timed.name, ROOM_FETCH | ROOM_REMOVE) || !room.is_full()
+}
+
 /// Whether a subject has a row of a call. Amplifiers have those of the vendor calls and no others.
-fn has_row(subject: &Subject, timed: &Timed) -> bool {
+fn has_row(subject: &Subject, timed: &Timed<Board>) -> bool {
     match timed.name {
         VENDOR_READ => subject.is_amplifier(),
         VENDOR_WRITE => subject.is_amplifier() && subject.has_pieces(),
@@ -265,47 +355,75 @@ fn main() -> ExitCode {
         if !subject.format.editions().contains(&edition) {
             continue;
         }
+        let numbers = (subject.format.number(), edition);
+        let head = (subject.name, subject.entries());
         for timed in CALLS.iter().filter(|timed| has_row(&subject, timed)) {
-            let Some((library, second)) = row(&subject, edition, timed, limit) else {
-                println!(
-                    "bench: {}, {}: refused or not alike",
-                    subject.name, timed.name
-                );
+            if !print_row(head, &subject.boards, numbers, timed, limit) {
                 return ExitCode::FAILURE;
-            };
-            println!(
-                "| {} | {} | {} | {} | {} | {:.2} |",
-                subject.name,
-                subject.entries(),
-                timed.name,
-                shown(library),
-                shown(second),
-                library / second
-            );
+            }
+        }
+    }
+    for room in subjects::rooms() {
+        let edition = edition.unwrap_or(room.edition);
+        if edition < room.edition {
+            continue;
+        }
+        let head = (room.name, room.entries);
+        for timed in ROOM_CALLS.iter().filter(|timed| room_has_row(&room, timed)) {
+            let numbers = (room.format, edition);
+            if !print_row(head, std::slice::from_ref(&room), numbers, timed, limit) {
+                return ExitCode::FAILURE;
+            }
         }
     }
     println!("Medians of a round, both built for release; buffers are not cleared between calls.");
     ExitCode::SUCCESS
 }
 
-/// The median times of a row, library and second reader, in seconds. Nothing where the two give
-/// different answers or leave different memory, or a call is refused.
-fn row(subject: &Subject, edition: u32, timed: &Timed, limit: Duration) -> Option<(f64, f64)> {
-    let format = subject.format.number();
+/// Times a row and prints it, or says that it could not be timed.
+fn print_row<T>(
+    (name, entries): (&str, usize),
+    boards: &[T],
+    numbers: (u32, u32),
+    timed: &Timed<T>,
+    limit: Duration,
+) -> bool {
+    let Some((library, second)) = row(boards, numbers, timed, limit) else {
+        println!("bench: {name}, {}: refused or not alike", timed.name);
+        return false;
+    };
+    println!(
+        "| {name} | {entries} | {} | {} | {} | {:.2} |",
+        timed.name,
+        shown(library),
+        shown(second),
+        library / second
+    );
+    true
+}
+
+/// The median times of a row with format and edition, library and second reader, in seconds. Nothing where
+/// the two give different answers or leave different memory, or a call is refused.
+fn row<T>(
+    boards: &[T],
+    (format, edition): (u32, u32),
+    timed: &Timed<T>,
+    limit: Duration,
+) -> Option<(f64, f64)> {
     let rooms = || -> Vec<Vec<u8>> {
-        let boards = subject.boards.iter();
+        let boards = boards.iter();
         boards.map(|board| vec![0; (timed.room)(board)]).collect()
     };
     let (mut of_library, mut of_second) = (rooms(), rooms());
-    for (board, (a, b)) in (subject.boards.iter()).zip(of_library.iter_mut().zip(&mut of_second)) {
+    for (board, (a, b)) in boards.iter().zip(of_library.iter_mut().zip(&mut of_second)) {
         let answer = (timed.library)(format, edition, board, a);
         if answer >> 59 != 0 || answer != (timed.second)(format, edition, board, b) || a != b {
             return None;
         }
     }
 
-    let once = |call: Call, rooms: &mut [Vec<u8>]| {
-        for (board, room) in subject.boards.iter().zip(rooms) {
+    let once = |call: Call<T>, rooms: &mut [Vec<u8>]| {
+        for (board, room) in boards.iter().zip(rooms) {
             black_box(call(format, edition, black_box(board), black_box(room)));
         }
     };

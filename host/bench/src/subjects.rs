@@ -1,4 +1,4 @@
-//! What is timed: images from one board's to the largest that there are.
+//! What is timed: images from one board's to the largest that there are, and rooms of boards.
 
 use images::fboss;
 use images::fields::List;
@@ -6,6 +6,8 @@ use images::generate::{kept, named};
 use images::image::{Entry, Format, Image, LONGEST, ONIE_LONGEST};
 use images::onie::EXTENSION;
 use images::random::Random;
+use images::room::{self, MOST};
+use images::tiny;
 use images::vendor::{self, Writing, PREFIX};
 use images::vpd::{self, Rule};
 
@@ -172,8 +174,8 @@ fn can_be_added(format: Format, entry: &Entry) -> bool {
     named(format, 3).contains(&entry.code) && !required && entry.key.iter().all(in_alphabet)
 }
 
-/// 000, Example.
-fn example() -> Board {
+/// The entries of 000's example.
+fn example_entries() -> Vec<Entry> {
     let values: [&[u8]; 20] = [
         b"FIRST_SQUEEZE",
         b"20123456",
@@ -196,11 +198,16 @@ fn example() -> Board {
         &[0x66, 0x55, 0x44, 0x33, 0x22, 0x11, 0x02, 0x00],
         &[0xFE, 0xDC, 0xBA, 0x98, 0x76, 0x54, 0x00, 0x02],
     ];
-    let entries = (1..)
+    (1..)
         .zip(values)
         .map(|(code, value)| Entry::new(code, value.to_vec()))
-        .collect();
-    board(Format::Fboss, entries, 8192, b"PS0987654321Z".to_vec())
+        .collect()
+}
+
+/// 000, Example.
+fn example() -> Board {
+    let value = b"PS0987654321Z".to_vec();
+    board(Format::Fboss, example_entries(), 8192, value)
 }
 
 /// 01: the SKU image.
@@ -394,4 +401,117 @@ fn full_amplifier() -> Board {
         payload: payload.len(),
         ..board(Format::Onie, entries, 0, Vec::new())
     }
+}
+
+/// A room file with what the calls on it take.
+pub struct Room {
+    pub name: &'static str,
+    pub file: Vec<u8>,
+    /// How many entries all bodies have together.
+    pub entries: usize,
+    /// The first edition that has all its formats.
+    pub edition: u32,
+    /// The board that is fetched, and the one that is replaced or removed.
+    pub fetched: u32,
+    pub removed: u32,
+    /// A board that is not there, and the new body with its format.
+    pub new: u32,
+    pub format: u32,
+    pub body: Vec<u8>,
+    /// The lengths of the file with the new board, with the one replaced, and without it.
+    pub with_new: usize,
+    pub with_replaced: usize,
+    pub without: usize,
+}
+
+impl Room {
+    /// Whether no board more has room in it.
+    pub fn is_full(&self) -> bool {
+        self.with_new > LONGEST
+    }
+}
+
+pub fn rooms() -> Vec<Room> {
+    vec![room_of_100(), full_room()]
+}
+
+/// A room with what is fetched, and removed or replaced by the new body, both by their number in the list.
+fn room(
+    name: &'static str,
+    edition: u32,
+    boards: &[room::Board],
+    entries: usize,
+    (fetched, removed): (usize, usize),
+    (format, body): (u32, Vec<u8>),
+) -> Room {
+    let file = room::file(boards);
+    let old = boards[removed].body.len();
+    Room {
+        name,
+        entries,
+        edition,
+        fetched: boards[fetched].number,
+        removed: boards[removed].number,
+        new: boards[removed].number + 1,
+        with_new: file.len() + room::ROW + body.len(),
+        with_replaced: file.len() - old + body.len(),
+        without: file.len() - room::ROW - old,
+        file,
+        format,
+        body,
+    }
+}
+
+/// 100 boards of every format in turn, of 300 bytes each and of Tiny 250, and a switch as the new body.
+fn room_of_100() -> Room {
+    let mut random = Random::of_input(1, 0, 1);
+    let mut fboss = example_entries();
+    let before = Image::new(Format::Fboss, fboss.clone()).bytes().len();
+    fboss.push(Entry::new(21, vec![0xEE; 300 - before - 2]));
+    let switch = switch();
+    let mut entries = 0;
+    let boards: Vec<room::Board> = (0..100)
+        .map(|n| {
+            let (format, list) = match n % 4 {
+                0 => (Format::Fboss, fboss.clone()),
+                1 => (
+                    Format::Vpd,
+                    vpd::filling(&mut random, Rule::Writer, 300, 12),
+                ),
+                2 => (Format::Tiny, tiny::filling(&mut random, 5)),
+                _ => {
+                    entries += switch.entries;
+                    return room::Board::new(1_000 + 7 * n, 4, &switch.image);
+                }
+            };
+            entries += list.len();
+            let body = Image::new(format, list).bytes();
+            room::Board::new(1_000 + 7 * n, format.number() as u8, &body)
+        })
+        .collect();
+    let new = (Format::Onie.number(), switch.image);
+    room(
+        "room of 100 boards, 29,558 bytes",
+        3,
+        &boards,
+        entries,
+        (50, 50),
+        new,
+    )
+}
+
+/// As many boards as there can be, VPD images of one byte, of which the last is fetched and the first removed.
+fn full_room() -> Room {
+    let boards: Vec<room::Board> = (0..MOST as u32)
+        .map(|n| room::Board::new(9 * n, 2, &[0x00]))
+        .collect();
+    let new = (Format::Vpd.number(), vec![0x00]);
+    room(
+        "room of 7,280 boards, 65,528 bytes",
+        2,
+        &boards,
+        0,
+        (MOST - 1, 0),
+        new,
+    )
 }
