@@ -1,6 +1,6 @@
 #!/usr/bin/env bash
 # The comparison under valgrind, each lent part a heap block of exactly its length:  host/memory.sh [INPUTS [SEED]]
-# INPUTS is a number of each format (default 1000). A byte read or written outside what was lent, or a jump on a
+# INPUTS is a number of each format, and of room files (default 1000). A byte read or written outside what was lent, or a jump on a
 # value that was never set, fails the run. The folder of libboardid.a is BOARDID_LIB, else target/staticlib of the repository.
 set -euo pipefail
 [ -z "${BOARDID_LIB:-}" ] || { BOARDID_LIB=$(realpath "$BOARDID_LIB") && export BOARDID_LIB; }
