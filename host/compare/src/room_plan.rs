@@ -1,7 +1,7 @@
 //! Which calls are made on a room file.
 
 use images::random::Random;
-use images::room::{self, fits, numbers_of, offered, sought, FORMS};
+use images::room::{self, fits, numbers_of, offered, similar, sought, FORMS};
 
 use crate::call::{count, refusal, Call};
 use crate::comparison::Comparison;
@@ -114,7 +114,10 @@ fn replaces(compare: &mut Comparison, random: &mut Random, fetch: &Call) {
     let there = numbers_of(file);
     let (format, old) = stored(file, fetch.board);
     let new_length = fits(file.len()) + room::ROW + old.len();
-    let (new_format, body) = offered(random, new_length);
+    let (new_format, body) = match random.below(4) {
+        0 => (format, similar(random, format, old)),
+        _ => offered(random, new_length),
+    };
     let replace = fetch.replace_board(new_format, &body, 0);
     if let Some(made) = into_outputs(compare, random, &replace) {
         let fetch = Call::fetch(1, fetch.edition, &made, fetch.board);

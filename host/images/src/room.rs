@@ -5,7 +5,7 @@ use std::collections::BTreeSet;
 use crate::damage;
 use crate::fboss;
 use crate::generate::valid;
-use crate::image::{around, Format, FORMATS, LONGEST};
+use crate::image::{around, seal, Format, FORMATS, LONGEST};
 use crate::random::Random;
 
 /// How many bytes the head of a file has, and a row of its contents.
@@ -337,18 +337,27 @@ fn damage_bytes(random: &mut Random, bytes: &mut Vec<u8>) {
         // A body's length: none, one off each way, its bytes the other way round.
         5 | 6 if rows > 0 => {
             let old = u16::from_be_bytes([bytes[row + 6], bytes[row + 7]]);
-            let new = match random.below(5) {
+            let new = match random.below(7) {
                 0 => 0,
                 1 => old.wrapping_add(1),
                 2 => old.wrapping_sub(1),
                 3 => old.swap_bytes(),
+                // Its low byte is right.
+                4 => old.wrapping_add(0x100),
+                5 => old.wrapping_sub(0x100),
                 _ => random.pick(&[1, 255, 256, 0x7FFF, 0x8000, 0xFFFF]),
             };
             bytes[row + 6..row + 8].copy_from_slice(&new.to_be_bytes());
         }
-        // A byte that goes from one body to its neighbour, so that the sum is as it was.
+        // A byte that goes from one body to its neighbour, so that the sum is as it was, or a sum that is as it
+        // was in its low 16 bits.
         7 if rows > 1 => {
             let row = HEAD + ROW * random.below(rows - 1);
+            if random.once_in(4) {
+                bytes[row + 6] ^= 0x80;
+                bytes[row + ROW + 6] ^= 0x80;
+                return;
+            }
             let (less, more) = random.pick(&[(row, row + ROW), (row + ROW, row)]);
             bytes[less + 7] = bytes[less + 7].wrapping_sub(1);
             bytes[more + 7] = bytes[more + 7].wrapping_add(1);
@@ -361,7 +370,10 @@ fn damage_bytes(random: &mut Random, bytes: &mut Vec<u8>) {
             bytes.pop();
         }
         11 => {
-            let more = random.between(1, 9);
+            let more = match random.below(4) {
+                0 => random.pick(&[255, 256, 257, 512]),
+                _ => random.between(1, 9),
+            };
             bytes.extend(random.bytes(more));
         }
         // A bit that has flipped, and a byte that has another value.
@@ -448,6 +460,23 @@ pub fn offered(random: &mut Random, fits: usize) -> (u32, Vec<u8>) {
         12..=15 => (number, shortest(format)),
         _ => (number, valid(random, format).bytes()),
     }
+}
+
+/// A body that differs from another in one byte, with the right check in most, and has its length.
+pub fn similar(random: &mut Random, format: u32, body: &[u8]) -> Vec<u8> {
+    let mut similar = body.to_vec();
+    let place = random.below(similar.len());
+    similar[place] = match random.below(2) {
+        0 => similar[place] ^ 1 << random.below(8),
+        _ => random.byte(),
+    };
+    let own = FORMATS
+        .into_iter()
+        .find(|own| own.number() == format && !random.once_in(4));
+    if let Some(own) = own {
+        seal(own, &mut similar);
+    }
+    similar
 }
 
 /// How long a body may be that is added to a file of this length, for the new file to have 65,536 bytes.

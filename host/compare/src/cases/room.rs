@@ -193,7 +193,7 @@ pub fn contents(compare: &mut Comparison) {
     for length in 0..right.len() {
         all_refuse(compare, "cut", (1, 4), &right[..length], 21);
     }
-    for more in [1, 2, 8, 300] {
+    for more in [1, 2, 8, 255, 256, 257, 300, 512, 4_096, 32_768] {
         let longer = [&right[..], &vec![0; more]].concat();
         wrong_contents(compare, "after", &longer);
     }
@@ -230,6 +230,26 @@ pub fn contents(compare: &mut Comparison) {
             let wrong = [&head(count)[..], &rows].concat();
             all_refuse(compare, "rows", (1, 4), &wrong, 21);
         }
+    }
+    // A sum that is right in its low 8 or 16 bits only, and a count whose rows are.
+    let mut random = Random::of_input(8, 0, 3);
+    for (stored, told) in [
+        ([300, 4], [44, 4]),
+        ([300, 4], [556, 4]),
+        ([4, 700], [4, 188]),
+        ([4, 1], [65_535, 6]),
+        ([1, 4], [6, 65_535]),
+        ([300, 1], [33_068, 32_769]),
+    ] {
+        let bodies = stored.map(|length| long_vpd(&mut random, length));
+        let mut wrong = file(&[board(7, 2, &bodies[0]), board(9, 2, &bodies[1])]);
+        for (row, length) in [8, 16].into_iter().zip(told) {
+            wrong[row + 6..row + 8].copy_from_slice(&u16::to_be_bytes(length));
+        }
+        wrong_contents(compare, "low bits", &wrong);
+    }
+    for count in [256 + 5, 8_192 + 5, 16_384 + 5, 32_768 + 5, 57_344 + 5] {
+        wrong_contents(compare, "low bits", &[&head(count), &right[8..]].concat());
     }
     for count in [256, 8_190, 8_191, 8_192, 65_535] {
         let mut wrong = head(count);
@@ -497,6 +517,36 @@ pub fn changed(compare: &mut Comparison) {
             (&other, above, part(41, 9)),
         ] {
             compare.room_case("by hand", &on(file, board), answer, b"");
+        }
+    }
+
+    // A replacement of the same format and length, by other bytes, by a byte after the end, and by itself.
+    let right = [
+        (2, bytes("01 03 53 4B 55 02 41 37 00 00")),
+        (2, bytes("01 03 53 4B 55 02 42 37 00 00")),
+        (2, bytes("01 03 53 4B 55 02 41 37 00 01")),
+        (2, bytes("01 03 53 4B 54 02 41 37 00 00")),
+        (3, bytes("56 02 06 10 00 B7 00 00 00 00")),
+    ];
+    for (format, new) in &right {
+        for edition in EDITIONS {
+            compare.next_case();
+            let around = |format, body| {
+                [
+                    board(1, 3, NO_TINY),
+                    board(2, format, body),
+                    board(3, 2, NO_VPD),
+                ]
+            };
+            let old = file(&around(2, &right[0].1));
+            let made = file(&around(*format as u8, new));
+            let fetch = Call::fetch(1, edition, &old, 2);
+            makes(
+                compare,
+                "the same length",
+                &fetch.replace_board(*format, new, 0),
+                &made,
+            );
         }
     }
 
