@@ -25,7 +25,7 @@ use Rattle.room_promises.specs.Told.{Refused, FirstRefused, first, Chang
 use Rattle.room_promises.proofs.Boards.{Asked, good, bad}
 use Rattle.room_promises.proofs.Bodies.{Body, accepted, refused, body}
 use Rattle.room_promises.proofs.Told.{bytes, Kind, kind, newFile, file-read, open-read}
-use Rattle.room_promises.proofs.Fetches.{accepted-judged, body-here, missing-denied, present-allowed, fetch-stands}
+use Rattle.room_promises.proofs.Fetches.{accepted-judged, body-here, missing-denied, present-allowed, stands-told}
 
 -- ---- bodies
 
@@ -204,7 +204,7 @@ exact-fetch form e file n by known short t l = go l
     go (wrong no-file) = wrong-room no-file (readRoom form file) refl
     go (missing bs is gone) = rw (opened (holds bs) (file-read is), missing-denied n bs gone) refl
     go (stored bs is there number place r) = rw (opened (holds bs) (file-read is), present-allowed n bs there, stored-judged form e bs number place r) refl
-    go (given before b after room same) = sym (fetch-stands form e file short before b after room .tells) ∙ ap (tellsFetch form e file) same
+    go (given before b after room same) = sym (stands-told form e file short before b after room) ∙ ap (tellsFetch form e file) same
 
 pub rooms-exact : RoomsExact
 rooms-exact = record { changed = exact-change; fetched = exact-fetch }

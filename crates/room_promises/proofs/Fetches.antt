@@ -127,20 +127,26 @@ module _ (form e : ℕ) (file : List ℕ) (short : length file ≤ 65536) where
   pub file-opened : (bs : List Board) → IsFile form file bs → KnownEdition e → openRoom form e file 0 ≡ has bs
   file-opened bs is known = open-read form e file 0 known short (omega arith) ∙ ap openedBy (file-read is)
 
-  pub fetch-stands : (before : List Board) (b : Board) (after : List Board) → RoomFile form e file (before ++ (b ∷ after)) → Fetches form e file (b .number) (b .body)
+  pub stands-told : (before : List Board) (b : Board) (after : List Board) → RoomFile form e file (before ++ (b ∷ after)) →
+      tellsFetch form e file (b .number)
+      ≡ told (length (b .body)) (partAt (bodiesAt form (length (before ++ (b ∷ after))) + length (bodiesOf before)) (length (b .body))) []
   unfolding fetchBoard
-  fetch-stands before b after room =
+  stands-told before b after room =
       let bs = before ++ (b ∷ after) in
       let known = accepted-edition (each-first (each-right before (b ∷ after) (room .accepted))) in
+      rw (
+        file-opened bs (room .is) known,
+        present-allowed (b .number) bs (stands before b after refl),
+        accepted-judged e (bodiesAt form (length bs)) bs (room .accepted),
+        body-here 0 (bodiesAt form (length bs)) before b after (room .is .holdable .rising),
+      )
+
+  fetch-stands : (before : List Board) (b : Board) (after : List Board) → RoomFile form e file (before ++ (b ∷ after)) → Fetches form e file (b .number) (b .body)
+  fetch-stands before b after room =
+      let bs = before ++ (b ∷ after) in
       record {
         x = partAt (bodiesAt form (length bs) + length (bodiesOf before)) (length (b .body));
-        tells =
-            rw (
-              file-opened bs (room .is) known,
-              present-allowed (b .number) bs (stands before b after refl),
-              accepted-judged e (bodiesAt form (length bs)) bs (room .accepted),
-              body-here 0 (bodiesAt form (length bs)) before b after (room .is .holdable .rising),
-            );
+        tells = stands-told before b after room;
         inside = omega (arith, ap length (room .is .is), file-length form bs, ap length (bodies-append before (b ∷ after)), length-append (bodiesOf before) (bodiesOf (b ∷ after)), first-body b after);
         bytes = rw (room .is .is) (body-bytes form before b after);
       }
