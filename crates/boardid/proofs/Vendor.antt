@@ -25,7 +25,7 @@ use Rattle.blocks.specs.declared.Vended.the-variants.{Tells, Unread}
 use Rattle.blocks.specs.Payload.{matching, joined, payloadSays}
 use Rattle.blocks.specs.Vendor.{askChosen, asked, untaken, taking, takeMatching, takeRead, readVendor}
 use Rattle.blocks.proofs.Asking.{read-unasked, read-asked}
-use Rattle.vendor.proofs.Taking.{copied-front}
+use Rattle.output.proofs.Overlay.{copied-front}
 use Rattle.records.specs.Words.{blockBytes}
 use Rattle.records.specs.Exports.{VendorGiven, ungiven, unlent, vendorGiven, vendorReadCall}
 use Rattle.records.proofs.Words.{length-block}

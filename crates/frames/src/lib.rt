@@ -4,7 +4,7 @@ ghost use mathlib.Core.Bool.{false};
 ghost use Prim.Native.Nat.{_-_, _*_, _≤_};
 ghost use Rattle.layout.specs.Bytes.{if, oneOf, part};
 ghost use Rattle.layout.specs.Shape.{fine, faulty, onLength, onHead, next};
-ghost use Rattle.layout.specs.Editions.{shape, withEdition, chosen, names, kind};
+ghost use Rattle.layout.specs.Editions.{shape, knownEdition, withEdition, chosen, names, kind};
 ghost use Rattle.layout.specs.Read.{sealed, same};
 ghost use Rattle.laws.specs.Marked.{allMarked};
 ghost use Rattle.frames.specs.Spots.{spotAt};
@@ -36,11 +36,18 @@ fn first_edition(format: Format) -> u32
     }
 }
 
+// Whether the edition is known.
+pub fn is_edition(edition: u32) -> bool
+    ensures { λ r. ⌜ r ≡ knownEdition edition ⌝ }
+{
+    (1 <= edition) & (edition <= 4)
+}
+
 // A format, where the edition is known and has it.
 fn with_edition(edition: u32, format: Format) -> Chosen
     ensures { λ r. ⌜ r ≡ withEdition edition format ⌝ }
 {
-    if (1 <= edition) & (edition <= 4) {
+    if is_edition(edition) {
         if first_edition(format) <= edition {
             return Chosen::Known(format);
         }

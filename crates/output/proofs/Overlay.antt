@@ -3,7 +3,7 @@
 use Prim.Native.Nat.{ℕ, _+_, _-_, _≤_, _<_}
 use mathlib.Core.Path.{_≡_, refl, ap, sym, _∙_}
 use mathlib.Core.List.{List, [], _∷_, _++_, append-assoc, append-nil}
-use native.Mathlib.Nat.{add-zero}
+use native.Mathlib.Nat.{add-zero, zero-add}
 use native.Mathlib.Numerals.{add-one}
 use native.Mathlib.Omega.{arith}
 use borrow.Author.Tests.{le-leb, lt-leb, leb-true}
@@ -69,6 +69,11 @@ copied-then d a s t {n = n} p q le e =
     let l : a + (length s + length t) ≤ length d = rw length-append at le in
     let o : n + length t ≤ length (over d a s) = omega (arith, length-over d a s (omega arith)) in
     q ∙ (rw (p, copied-over d a s (omega arith), copied-over (over d a s) n t o, copied-over d a (s ++ t) le) (over-over d a s t n (omega arith) e))
+
+-- A copy to the front, with what follows it.
+pub copied-front : (d s : List ℕ) → length s ≤ length d → copied d 0 s ≡ s ++ drop (length s) d
+unfolding over
+copied-front d s le = copied-over d 0 s (omega arith) ∙ ap (λ (n : ℕ). s ++ drop n d) (zero-add (length s))
 
 -- A copy to the very end.
 copied-last : (d : List ℕ) (a : ℕ) (s : List ℕ) → a + length s ≡ length d → copied d a s ≡ take a d ++ s

@@ -4,7 +4,7 @@ ghost use Prim.Native.Nat.{ℕ, _+_, _-_, _≤_, _<_};
 ghost use mathlib.Core.List.{List};
 ghost use lib.ListN.{length};
 ghost use Rattle.layout.specs.Bytes.{part};
-ghost use Rattle.layout.specs.Editions.{shape, kind};
+ghost use Rattle.layout.specs.Editions.{shape, knownEdition, kind};
 ghost use Rattle.layout.specs.Walk.{content};
 ghost use Rattle.layout.specs.Calls.{checkImage, keyPart, readingBy, entryOf, nth, entriesOf, entryAt, valueAt, stringIn, poolString, stringAt, bytesAt, verdict};
 ghost use Rattle.laws.specs.Passes.{walked, IsDone, rawsIn};
@@ -67,6 +67,13 @@ fn part_at(place: usize, len: usize) -> Part
         place: Place(place),
         len: len,
     }
+}
+
+// Whether the edition is known.
+pub fn is_edition(edition: u32) -> bool
+    ensures { λ r. ⌜ r ≡ knownEdition edition ⌝ }
+{
+    frames::is_edition(edition)
 }
 
 // The number of entries, or the refusal.

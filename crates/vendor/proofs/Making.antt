@@ -17,6 +17,7 @@ use Rattle.layout.specs.Read.{limit}
 use Rattle.layout.specs.Write.{Outcome, refuse, putBytes}
 use Rattle.layout.proofs.Choices.{both}
 use Rattle.output.specs.Placing.{copied}
+use Rattle.output.proofs.Overlay.{copied-front}
 use Rattle.blocks.specs.declared.Offsets.{Offsets}
 use Rattle.blocks.specs.Payload.{front, payloadOf, cutInto, sum, writable}
 use Rattle.blocks.specs.Vendor.{asked, writeVendor}
@@ -24,7 +25,7 @@ use Rattle.blocks.proofs.Asking.{asked-short, write-asked}
 use Rattle.blocks.proofs.Lengths.{length-front, length-values}
 use Rattle.vendor.specs.declared.Pieces.the-variants.{Right, Wrong}
 use Rattle.vendor.specs.Pieces.{countedBy}
-use Rattle.vendor.proofs.Taking.{copied-front, joined-there}
+use Rattle.vendor.proofs.Taking.{joined-there}
 
 -- what comes before the check is read where it was put
 pub front-there : (d serial : List ℕ) (o : Offsets) → 12 + length serial ≤ length d → take (12 + length serial) (copied d 0 (front serial o)) ≡ front serial o

@@ -4,9 +4,8 @@ use Prim.Native.Nat.{ℕ, _+_, _≤_}
 use mathlib.Core.Path.{_≡_, refl, ap, sym, _∙_}
 use mathlib.Core.List.{List, [], _∷_, _++_, map}
 use mathlib.Core.Bool.{true, false}
-use native.Mathlib.Nat.{zero-add}
 use native.Mathlib.Omega.{arith}
-use lib.ListN.{length, drop}
+use lib.ListN.{length}
 use Rattle.layout.specs.declared.Format.{Format}
 use Rattle.layout.specs.declared.Format.the-variants.{Onie}
 use Rattle.layout.specs.declared.Chosen.the-variants.{Known}
@@ -21,7 +20,7 @@ use Rattle.laws.specs.Passes.{walked, IsDone, rawsIn}
 use Rattle.laws.proofs.Calls.{is-format}
 use Rattle.layout.proofs.Choices.{false-true}
 use Rattle.laws.proofs.Onie.{onie-room}
-use Rattle.output.specs.Placing.{over, copied}
+use Rattle.output.specs.Placing.{copied}
 use Rattle.output.proofs.Overlay.{copied-over, part-over}
 use Rattle.accept.specs.declared.Room.{Room}
 use Rattle.accept.specs.declared.Taken.the-variants.{Is, Isnt}
@@ -38,11 +37,6 @@ pub outcome : {a : Vended} {m : List ℕ} {t : Taking} → t ≡ record { answer
 outcome e = (sym (ap (λ (t : Taking). t .answer) e), sym (ap (λ (t : Taking). t .memory) e))
 
 -- ---- the payload
-
--- what is copied to the front, with what follows it
-pub copied-front : (d s : List ℕ) → length s ≤ length d → copied d 0 s ≡ s ++ drop (length s) d
-unfolding over
-copied-front d s le = copied-over d 0 s (omega arith) ∙ ap (λ (n : ℕ). s ++ drop n d) (zero-add (length s))
 
 -- what was joined in memory of the call is read there
 pub joined-there : (d s : List ℕ) (n : ℕ) → n ≡ length s → n ≤ length d → part 0 n (copied d 0 s) ≡ s

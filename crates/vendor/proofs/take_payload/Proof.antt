@@ -4,7 +4,7 @@ use mathlib.Core.Path.{refl, ap, sym, _∙_}
 use Rattle.blocks.specs.declared.Vended.the-variants.{Unread}
 use denote.Ref.{now}
 use borrow.Author.Tests.{lt-leb, le-leb}
-use Rattle.vendor.proofs.Taking.{copied-front}
+use Rattle.output.proofs.Overlay.{copied-front}
 use borrow.Author.Needs.{needs}
 use Rattle.vendor.proofs.take_payload.Statement.{statement}
 use Rattle.vendor.proofs.take_payload.Tie as tie
