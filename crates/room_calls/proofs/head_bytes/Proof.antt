@@ -1,0 +1,22 @@
+-- `room_calls::head_bytes` meets its contract.
+-- Assumes nothing.
+use Rattle.rooms.specs.File.{head}
+use borrow.Author.Needs.{needs}
+use Rattle.room_calls.proofs.head_bytes.Statement.{statement}
+use Rattle.room_calls.proofs.head_bytes.Tie as tie
+
+cast-t4 : tie.Need-cast-t4
+cast-t4 c = search needs
+
+cast-t7 : tie.Need-cast-t7
+cast-t7 c = search needs
+
+cast-t9 : tie.Need-cast-t9
+cast-t9 c = search needs
+
+returns : tie.Need-returns
+unfolding head
+returns c = search needs
+
+pub head-bytes-spec : {M : Type 1} → statement M
+head-bytes-spec = tie.close (tie.spec cast-t4 cast-t7 cast-t9 returns)
