@@ -11,7 +11,7 @@ ghost use Rattle.output.specs.Placing.{copied};
 ghost use Rattle.blocks.specs.Vendor.{readVendor};
 ghost use Rattle.records.specs.Packed.{packed};
 ghost use Rattle.records.specs.Words.{recordsBytes};
-ghost use Rattle.records.specs.Exports.{checkCall, valueCall, stringCall, entryCall, walkFormat, walkEdition, walkEntry, stepCall, listCall, writeCall, editCall, addCall, removeCall, unlent, vendorReadCall, offsetsOf, vendorWriteCall};
+ghost use Rattle.records.specs.Exports.{checkCall, valueCall, stringCall, entryCall, walkFormat, walkEdition, walkEntry, stepCall, listCall, writeCall, editCall, addCall, removeCall, unlent, vendorReadCall, offsetsOf, vendorWriteCall, roomAddCall, roomReplaceCall, roomRemoveCall, roomFetchCall};
 use accept::Taken;
 use blocks::Offsets;
 use blocks::Vended;
@@ -316,4 +316,60 @@ pub extern "C" fn boardid_vendor_write(
 {
     let o = offsets_of(offsets);
     records::pack_made(vendor::write_vendor(out, format, edition, serial, o, pieces))
+}
+
+// ---- machine-room files
+
+// The file with one board more, into the output.
+#[no_mangle]
+pub extern "C" fn boardid_room_add(
+    form: u32,
+    edition: u32,
+    file: &[u8],
+    board: u32,
+    format: u32,
+    body: &[u8],
+    out: &mut [u8],
+) -> u64
+    ensures { λ r. ⌜ (r ≡ roomAddCall form edition (now (file .entry)) board format (now (body .entry)) (now (out .entry)) .answer) × (now (out .exit) ≡ roomAddCall form edition (now (file .entry)) board format (now (body .entry)) (now (out .entry)) .memory) ⌝ }
+{
+    records::pack_made(room_calls::add_board(out, form, edition, file, board, format, body))
+}
+
+// The file with another body and format for a board, into the output.
+#[no_mangle]
+pub extern "C" fn boardid_room_replace(
+    form: u32,
+    edition: u32,
+    file: &[u8],
+    board: u32,
+    format: u32,
+    body: &[u8],
+    out: &mut [u8],
+) -> u64
+    ensures { λ r. ⌜ (r ≡ roomReplaceCall form edition (now (file .entry)) board format (now (body .entry)) (now (out .entry)) .answer) × (now (out .exit) ≡ roomReplaceCall form edition (now (file .entry)) board format (now (body .entry)) (now (out .entry)) .memory) ⌝ }
+{
+    records::pack_made(room_calls::replace_board(out, form, edition, file, board, format, body))
+}
+
+// The file without a board, into the output.
+#[no_mangle]
+pub extern "C" fn boardid_room_remove(
+    form: u32,
+    edition: u32,
+    file: &[u8],
+    board: u32,
+    out: &mut [u8],
+) -> u64
+    ensures { λ r. ⌜ (r ≡ roomRemoveCall form edition (now (file .entry)) board (now (out .entry)) .answer) × (now (out .exit) ≡ roomRemoveCall form edition (now (file .entry)) board (now (out .entry)) .memory) ⌝ }
+{
+    records::pack_made(room_calls::remove_board(out, form, edition, file, board))
+}
+
+// The part of the file that is the body of a board.
+#[no_mangle]
+pub extern "C" fn boardid_room_fetch(form: u32, edition: u32, file: &[u8], board: u32) -> u64
+    ensures { λ r. ⌜ r ≡ roomFetchCall form edition (now (file .entry)) board ⌝ }
+{
+    records::pack_located(room_calls::fetch_board(form, edition, file, board))
 }

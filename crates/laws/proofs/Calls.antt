@@ -13,7 +13,6 @@ use Rattle.layout.specs.declared.Format.the-variants.{Fboss, Vpd, Tiny, Onie}
 use Rattle.layout.specs.declared.Chosen.{Chosen}
 use Rattle.layout.specs.declared.Chosen.the-variants.{Known, Unknown}
 use Rattle.layout.specs.declared.Checked.the-variants.{Accepted}
-use Rattle.layout.specs.declared.Made.{Made}
 use Rattle.layout.specs.Bytes.{if, refusal}
 use Rattle.layout.specs.Fboss.{fboss}
 use Rattle.layout.specs.Vpd.{vpd}
@@ -23,7 +22,7 @@ use Rattle.layout.specs.Editions.{shape, knownEdition, withEdition, chosen}
 use Rattle.layout.specs.Walk.{Raw, content, flat}
 use Rattle.layout.specs.Read.{limit, complete, codesOf, Read, accepted, refused, bad, readAs, readChosen, readImage}
 use Rattle.layout.specs.Calls.{checkedBy, checkImage}
-use Rattle.layout.specs.Write.{Outcome, refuse}
+use Rattle.layout.specs.Write.{refuse}
 use Rattle.layout.specs.Change.{Change, changeRead, changeChosen, changeImage}
 use Rattle.laws.specs.Grammar.{grammar, Lawful}
 use Rattle.laws.proofs.Walking.{Frames}
@@ -154,9 +153,3 @@ change-read x f e image out le = go (chosen f e)
     go : (y : Chosen) → changeChosen y x e image out ≡ changeRead (readChosen y e image) x e out
     go (Known g) = by-test g (ltb limit (length image))
     go (Unknown n) = refl
-
--- ---- outcomes
-
--- an answer and a memory are those of an outcome
-pub outcome : {x : Outcome} {a : Made} {m : List ℕ} → x ≡ record { answer = a; memory = m } → (a ≡ x .answer) × (m ≡ x .memory)
-outcome e = (sym (ap (λ (x : Outcome). x .answer) e), sym (ap (λ (x : Outcome). x .memory) e))

@@ -1,5 +1,6 @@
 pub mod Choices
 pub mod Lists
+pub mod Outcomes
 pub mod Cases
 pub mod CasesCalendar
 pub mod CasesFboss

@@ -1,7 +1,7 @@
 -- The boards of a file by a board number: those below it, its own and those above it; and what their rows come to.
 -- Assumes nothing.
-use Prim.Native.Nat.{ℕ, suc, _+_, _≤_, _<_}
-use mathlib.Core.Path.{_≡_, refl, ap, ap₂, sym, _∙_}
+use Prim.Native.Nat.{ℕ, _+_, _≤_, _<_}
+use mathlib.Core.Path.{_≡_, refl, ap, sym, _∙_}
 use mathlib.Core.List.{List, [], _∷_, _++_, append-nil}
 use mathlib.Core.Bool.{Bool, true, false, _&&_}
 use native.Mathlib.Nat.{add-zero, add-assoc}
@@ -10,15 +10,15 @@ use lib.ListN.{length, take, drop, length-append, length-drop}
 use lib.Seq.{length-take-le}
 use lib.Dec.{ltb, leb, eqb}
 use borrow.Author.Tests.{ltb-true, ltb-false, leb-true, lt-ltb, le-ltb, eq-eqb, ne-eqb}
-use Rattle.layout.specs.declared.Located.{Located}
 use Rattle.layout.specs.declared.Located.the-variants.{At}
 use Rattle.layout.specs.Bytes.{partAt, refusal}
 use Rattle.layout.specs.Each.{Each, none as nothing, also}
 use Rattle.layout.specs.Change.{allowed, denied}
+use Rattle.layout.proofs.Choices.{both}
 use Rattle.rooms.specs.File.{Board, bodiesOf, Row, rightFrom, sizes, boardsOf}
 use Rattle.rooms.specs.Grammar.{Rising, none, next, Storable}
 use Rattle.rooms.specs.Calls.{present, absent, below, above, bodyAt}
-use Rattle.room_calls.specs.Rows.{sum, lowRow, lowSize, ownSize}
+use Rattle.room_calls.specs.Rows.{rightRow, sum, lowRow, lowSize, ownSize}
 use Rattle.room_calls.specs.Boards.{own}
 
 -- a number is below another, the same or above it
@@ -44,16 +44,11 @@ record First (low : ℕ) (r : Row) (rs : List Row) : Type 0 where
 
 right-first : (low : ℕ) (r : Row) (rs : List Row) → rightFrom low (r ∷ rs) ≡ true → First low r rs
 unfolding rightFrom
-right-first low r rs ok = go (leb low (r .number)) (eqb (r .zero) 0) (leb 1 (r .size)) refl ok
-  where
-    never : {A : Type 0} → false ≡ true → A
-    never e = let z : _≡_ {A = ℕ} 0 1 = cc in absurd (omega arith)
-
-    go : (a b c : Bool) → leb low (r .number) ≡ a → (a && b && c && rightFrom (r .number + 1) rs) ≡ true → First low r rs
-    go true true true p q = record { number = leb-true low (r .number) p; rest = q }
-    go true true false p q = never q
-    go true false c p q = never q
-    go false b c p q = never q
+right-first low r rs ok =
+    let x = both (rightRow low r) (rightFrom (r .number + 1) rs) ok in
+    let y = both (leb low (r .number) && eqb (r .zero) 0) (leb 1 (r .size)) (x .0) in
+    let z = both (leb low (r .number)) (eqb (r .zero) 0) (y .0) in
+    record { number = leb-true low (r .number) (z .0); rest = x .1 }
 
 -- rows above a number weigh nothing where none of them does
 sum-above : (f : Row → ℕ) (n : ℕ) → ((r : Row) → n < r .number → f r ≡ 0) → (low : ℕ) (rs : List Row) → rightFrom low rs ≡ true → n < low → sum f rs ≡ 0
@@ -118,11 +113,6 @@ tally-boards n low [] s ok le = record { rows = refl; bytes = refl; its = refl; 
 tally-boards n low (r ∷ rs) s ok le =
     let h = right-first low r rs ok in
     tally-more n r rs s (h .rest) (omega arith) (tally-boards n (r .number + 1) rs (drop (r .size) s) (h .rest) (omega (arith, length-drop (r .size) s))) (order (r .number) n)
-
-pub boards-count : (rs : List Row) (s : List ℕ) → length (boardsOf rs s) ≡ length rs
-unfolding boardsOf
-boards-count [] s = refl
-boards-count (r ∷ rs) s = ap suc (boards-count rs (drop (r .size) s))
 
 -- ---- boards
 

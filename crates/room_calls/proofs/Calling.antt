@@ -3,40 +3,29 @@
 use Prim.Native.Nat.{ℕ, zero, suc, _+_, _*_, _≤_, _<_}
 use mathlib.Core.Path.{_≡_, refl, ap, ap₂, sym, _∙_}
 use mathlib.Core.List.{List, [], _∷_, _++_, append-nil}
-use native.Mathlib.Nat.{zero-add}
 use native.Mathlib.Omega.{arith}
-use lib.ListN.{length, getD, drop, length-append}
+use lib.ListN.{length, getD}
 use lib.Seq.{take-length}
 use borrow.Author.Tests.{lt-ltb}
 use Rattle.layout.specs.declared.Refusal.{Refusal}
-use Rattle.layout.specs.declared.Made.{Made}
-use Rattle.layout.specs.declared.Located.{Located}
 use Rattle.layout.specs.declared.Located.the-variants.{At, Nowhere}
 use Rattle.layout.specs.Bytes.{part, partAt, refusal}
 use Rattle.layout.specs.Calls.{checkImage}
 use Rattle.layout.specs.Change.{Allowed, allowed, denied}
-use Rattle.layout.specs.Write.{Outcome, refuse, putBytes}
+use Rattle.layout.specs.Write.{refuse, putBytes}
 use Rattle.rooms.specs.File.{Board, board, one, two, four, rowOf, rowsOf, bodiesOf, fileOf}
 use Rattle.rooms.specs.Grammar.{IsFile}
 use Rattle.rooms.specs.Calls.{present, absent, andThen, bodyAllowed, judgeBodies, judgeStored, Opened, has, hasNot, openRoom, below, above, changed, changeAsks, changeAllowed, changeOpened, changeRoom, bodyAt, fetchAllowed, fetchOpened, fetchBoard}
 use Rattle.room_calls.specs.declared.Tally.{Tally}
 use Rattle.room_calls.specs.declared.Found.the-variants.{Not}
 use Rattle.room_calls.specs.declared.Judged.the-variants.{Fine, Faulty}
-use Rattle.room_calls.specs.Boards.{own, tallyOf, foundBy, judgedBy, boardsAt, Stored}
+use Rattle.room_calls.specs.Boards.{own, foundBy, judgedBy, boardsAt, Stored}
 use Rattle.room_calls.specs.Laying.{rowsGone, laid, Lies}
 use Rattle.rooms.proofs.Reading.{read-is}
 use Rattle.room_calls.proofs.Boards.{There, isnt, is, there, splits, body-at}
 use Rattle.room_calls.proofs.Judging.{fine-allowed, faulty-denied}
 use Rattle.room_calls.proofs.Laying.{tally-lies, laid-is}
 use Rattle.room_calls.proofs.Opening.{Opens}
-
--- an answer and a memory are those of an outcome
-pub answers : {x : Outcome} {a : Made} {m : List ℕ} → x ≡ record { answer = a; memory = m } → (a ≡ x .answer) × (m ≡ x .memory)
-answers e = (sym (ap (λ (x : Outcome). x .answer) e), sym (ap (λ (x : Outcome). x .memory) e))
-
--- what an answer and a memory are, those of an equal outcome are
-pub answers-as : {x y : Outcome} {a : Made} {m : List ℕ} → (a ≡ x .answer) × (m ≡ x .memory) → y ≡ x → (a ≡ y .answer) × (m ≡ y .memory)
-answers-as e q = (e .0 ∙ sym (ap (λ (x : Outcome). x .answer) q), e .1 ∙ sym (ap (λ (x : Outcome). x .memory) q))
 
 -- ---- a file that is not opened
 

@@ -1,8 +1,8 @@
 -- What the check says of one body, and of the bodies of a file, one after another.
 -- Assumes nothing.
 use Prim.Native.Nat.{ℕ, _+_, _*_, _-_, _≤_, _<_}
-use mathlib.Core.Path.{_≡_, refl, ap, ap₂, sym, _∙_}
-use mathlib.Core.List.{List, [], _∷_}
+use mathlib.Core.Path.{_≡_, refl, ap, sym, _∙_}
+use mathlib.Core.List.{List}
 use native.Mathlib.Omega.{arith}
 use lib.ListN.{length, take, drop, length-drop}
 use lib.Seq.{length-take-le, drop-drop}
@@ -15,7 +15,7 @@ use Rattle.layout.specs.Change.{Allowed, allowed, denied}
 use Rattle.promises.proofs.Entries.{CheckedIn}
 use Rattle.promises.proofs.ReadCalls.{checked-in}
 use Rattle.promises.proofs.Refusals.{farthest}
-use Rattle.rooms.specs.File.{Board, Row, rowIn, rowsIn, sizes, boardsOf}
+use Rattle.rooms.specs.File.{rowIn, rowsIn, sizes, boardsOf}
 use Rattle.rooms.specs.Calls.{andThen, bodyAllowed, judgeBodies}
 use Rattle.room_calls.specs.declared.Judged.the-variants.{Fine, Faulty}
 use Rattle.room_calls.specs.Boards.{judgedBy}

@@ -1,14 +1,12 @@
 -- The bytes of a new file by blocks of the old one.
 -- Assumes nothing.
-use Prim.Native.Nat.{ℕ, suc, _+_, _*_, _-_, _/_, _≤_, _<_}
+use Prim.Native.Nat.{ℕ, _+_, _*_, _-_, _/_, _≤_, _<_}
 use mathlib.Core.Path.{_≡_, refl, ap, ap₂, sym, _∙_}
-use mathlib.Core.List.{List, [], _∷_, _++_, append-assoc, append-nil}
-use native.Mathlib.Nat.{add-assoc}
+use mathlib.Core.List.{List, [], _++_, append-assoc, append-nil}
 use native.Mathlib.Omega.{arith}
-use lib.ListN.{length, take, drop, length-append, length-drop, length-take}
+use lib.ListN.{length, take, drop, length-append, length-drop}
 use lib.Seq.{take-at, drop-at, length-take-le}
-use lib.Dec.{ltb}
-use borrow.Author.Tests.{lt-ltb, le-ltb, le-leb, lt-leb}
+use borrow.Author.Tests.{le-leb, lt-leb}
 use Rattle.layout.specs.declared.Made.the-variants.{Wrote}
 use Rattle.layout.specs.Bytes.{part, refusal}
 use Rattle.layout.specs.Write.{refuse, putBytes}
@@ -16,9 +14,9 @@ use Rattle.layout.proofs.Lists.{joined-append}
 use Rattle.output.specs.Placing.{copied}
 use Rattle.output.proofs.Overlay.{copied-then, copied-front}
 use Rattle.rooms.specs.File.{Board, head, rowOf, rowsOf, bodiesOf, fileOf}
+use Rattle.rooms.proofs.Reading.{rows-length, head-length, bodies-append, file-length}
 use Rattle.rooms.specs.Calls.{below, above, changed}
 use Rattle.room_calls.specs.declared.Tally.{Tally}
-use Rattle.room_calls.specs.Rows.{weigh}
 use Rattle.room_calls.specs.Boards.{own, tallyOf}
 use Rattle.room_calls.specs.Laying.{rowsGone, between, laid, Lies}
 
@@ -85,19 +83,6 @@ rows-append : (xs ys : List Board) → rowsOf (xs ++ ys) ≡ rowsOf xs ++ rowsOf
 unfolding rowsOf
 rows-append = joined-append rowsOf rowOf refl (λ b bs. refl)
 
-bodies-append : (xs ys : List Board) → bodiesOf (xs ++ ys) ≡ bodiesOf xs ++ bodiesOf ys
-unfolding bodiesOf
-bodies-append = joined-append bodiesOf (λ b. b .body) refl (λ b bs. refl)
-
-pub length-rows : (bs : List Board) → length (rowsOf bs) ≡ 8 * length bs
-unfolding rowsOf rowOf
-length-rows [] = refl
-length-rows (b ∷ bs) = omega (arith, length-append (rowOf b) (rowsOf bs), length-rows bs)
-
-length-head : (form n : ℕ) → length (head form n) ≡ 8
-unfolding head
-length-head form n = refl
-
 -- ---- the new file
 
 -- what a tally has lies in the file: how long the blocks are
@@ -118,7 +103,7 @@ module _ (form : ℕ) (file : List ℕ) (n : ℕ) (t : Tally) (row body : List �
       let h : List ℕ = head form (n - rowsGone (t .own) + length row / 8) in
       let rs : List ℕ = between 8 (8 + 8 * t .rows) (8 + 8 * t .rows + 8 * rowsGone (t .own)) (8 + 8 * n) row file in
       let bs : List ℕ = between (8 + 8 * n) (8 + 8 * n + t .below) (8 + 8 * n + t .below + t .own) (length file) body file in
-      omega (arith, length-append h (rs ++ bs), length-append rs bs, length-head form (n - rowsGone (t .own) + length row / 8), length-new-rows, length-new-bodies, lies .rows, lies .bodies)
+      omega (arith, length-append h (rs ++ bs), length-append rs bs, head-length form (n - rowsGone (t .own) + length row / 8), length-new-rows, length-new-bodies, lies .rows, lies .bodies)
 
   module _ (out : List ℕ) where
     pub laid-short : length out < length file - 8 * rowsGone (t .own) - t .own + length row + length body → putBytes (laid form file n t row body) out ≡ refuse (refusal 12 0) out
@@ -148,7 +133,7 @@ module _ (form : ℕ) (file : List ℕ) (n : ℕ) (t : Tally) (row body : List �
       let x : List ℕ = head form (n - rowsGone (t .own) + length row / 8) in
       let y : List ℕ = between 8 (8 + 8 * t .rows) (8 + 8 * t .rows + 8 * rowsGone (t .own)) (8 + 8 * n) row file in
       let z : List ℕ = between (8 + 8 * n) (8 + 8 * n + t .below) (8 + 8 * n + t .below + t .own) (length file) body file in
-      let lx : length x ≡ 8 = length-head form (n - rowsGone (t .own) + length row / 8) in
+      let lx : length x ≡ 8 = head-length form (n - rowsGone (t .own) + length row / 8) in
       let ly = length-new-rows form file n t row body lies in
       let l : length (x ++ y) ≡ length x + length y = length-append x y in
       let l2 : length (x ++ y ++ z) ≡ length (x ++ y) + length z = length-append (x ++ y) z in
@@ -174,19 +159,15 @@ module _ (form : ℕ) (bs : List Board) (n : ℕ) (split : bs ≡ below n bs ++ 
       ∙ length-append (bodiesOf (below n bs)) (bodiesOf (own n bs) ++ bodiesOf (above n bs))
       ∙ ap (λ (k : ℕ). length (bodiesOf (below n bs)) + k) (length-append (bodiesOf (own n bs)) (bodiesOf (above n bs)))
 
-  file-length : length (fileOf form bs) ≡ 8 + 8 * length bs + length (bodiesOf bs)
-  unfolding fileOf
-  file-length = omega (arith, length-append (head form (length bs)) (rowsOf bs ++ bodiesOf bs), length-append (rowsOf bs) (bodiesOf bs), length-head form (length bs), length-rows bs)
-
   pub tally-lies : Lies (length (fileOf form bs)) (length bs) (tallyOf n bs)
-  tally-lies = record { rows = omega (arith, count, gone); bodies = omega (arith, file-length, bodies-count) }
+  tally-lies = record { rows = omega (arith, count, gone); bodies = omega (arith, file-length form bs, bodies-count) }
 
   module _ (new : List Board) where
     whole : (h : List Board → List ℕ) → ((xs ys : List Board) → h (xs ++ ys) ≡ h xs ++ h ys) → h (below n bs) ++ (h new ++ h (above n bs)) ≡ h (changed n new bs)
     whole h both = sym (both (below n bs) (new ++ above n bs) ∙ ap (λ (l : List ℕ). h (below n bs) ++ l) (both new (above n bs)))
 
     new-count : length bs - rowsGone (length (bodiesOf (own n bs))) + length (rowsOf new) / 8 ≡ length (changed n new bs)
-    new-count = omega (arith, count, gone, length-rows new, length-append (below n bs) (new ++ above n bs), length-append new (above n bs))
+    new-count = omega (arith, count, gone, rows-length new, length-append (below n bs) (new ++ above n bs), length-append new (above n bs))
 
     new-rows : between 8 (8 + 8 * length (below n bs)) (8 + 8 * length (below n bs) + 8 * rowsGone (length (bodiesOf (own n bs)))) (8 + 8 * length bs) (rowsOf new) (fileOf form bs) ≡ rowsOf (changed n new bs)
     unfolding fileOf
@@ -194,10 +175,10 @@ module _ (form : ℕ) (bs : List Board) (n : ℕ) (split : bs ≡ below n bs ++ 
         between-is (head form (length bs)) (rowsOf (below n bs)) (rowsOf (own n bs)) (rowsOf (above n bs)) (bodiesOf bs) (fileOf form bs) (rowsOf new) 8 (8 + 8 * length (below n bs))
         (8 + 8 * length (below n bs) + 8 * rowsGone (length (bodiesOf (own n bs)))) (8 + 8 * length bs)
         (ap (λ (l : List ℕ). head form (length bs) ++ (l ++ bodiesOf bs)) rows-split ∙ ap (λ (l : List ℕ). head form (length bs) ++ l) (three (rowsOf (below n bs)) (rowsOf (own n bs)) (rowsOf (above n bs)) (bodiesOf bs)))
-        (length-head form (length bs))
-        (omega (arith, length-rows (below n bs)))
-        (omega (arith, length-rows (own n bs), gone))
-        (omega (arith, length-rows (above n bs), gone, count))
+        (head-length form (length bs))
+        (omega (arith, rows-length (below n bs)))
+        (omega (arith, rows-length (own n bs), gone))
+        (omega (arith, rows-length (above n bs), gone, count))
         ∙ whole rowsOf rows-append
 
     new-bodies : between (8 + 8 * length bs) (8 + 8 * length bs + length (bodiesOf (below n bs))) (8 + 8 * length bs + length (bodiesOf (below n bs)) + length (bodiesOf (own n bs))) (length (fileOf form bs)) (bodiesOf new) (fileOf form bs) ≡ bodiesOf (changed n new bs)
@@ -206,10 +187,10 @@ module _ (form : ℕ) (bs : List Board) (n : ℕ) (split : bs ≡ below n bs ++ 
         between-is (head form (length bs) ++ rowsOf bs) (bodiesOf (below n bs)) (bodiesOf (own n bs)) (bodiesOf (above n bs)) [] (fileOf form bs) (bodiesOf new) (8 + 8 * length bs) (8 + 8 * length bs + length (bodiesOf (below n bs)))
         (8 + 8 * length bs + length (bodiesOf (below n bs)) + length (bodiesOf (own n bs))) (length (fileOf form bs))
         (sym (append-assoc (head form (length bs)) (rowsOf bs) (bodiesOf bs)) ∙ ap (λ (l : List ℕ). head form (length bs) ++ rowsOf bs ++ l) (bodies-split ∙ ap (λ (l : List ℕ). bodiesOf (below n bs) ++ (bodiesOf (own n bs) ++ l)) (sym (append-nil (bodiesOf (above n bs))))))
-        (omega (arith, length-append (head form (length bs)) (rowsOf bs), length-head form (length bs), length-rows bs))
+        (omega (arith, length-append (head form (length bs)) (rowsOf bs), head-length form (length bs), rows-length bs))
         refl
         refl
-        (omega (arith, file-length, bodies-count))
+        (omega (arith, file-length form bs, bodies-count))
         ∙ whole bodiesOf bodies-append
 
     -- the file with the new boards in the place of number n

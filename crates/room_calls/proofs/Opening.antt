@@ -1,26 +1,27 @@
 -- What a file is read as by the tests of the code, and what is known of one that is opened.
 -- Assumes nothing.
-use Prim.Native.Nat.{ℕ, zero, suc, _+_, _*_, _-_, _≤_, _<_}
+use Prim.Native.Nat.{ℕ, _+_, _*_, _-_, _≤_, _<_}
 use mathlib.Core.Path.{_≡_, refl, ap, ap₂, sym, _∙_}
-use mathlib.Core.List.{List, []}
+use mathlib.Core.List.{List}
 use mathlib.Core.Bool.{Bool, true, false, _&&_, _||_, and-false}
 use native.Mathlib.Omega.{arith}
 use lib.ListN.{length, take, drop, length-take, length-drop}
-use lib.Dec.{ltb, leb, eqb}
-use borrow.Author.Tests.{ltb-false, leb-true, eqb-true, lt-ltb, le-ltb, le-leb, lt-leb, eq-eqb, ne-eqb}
+use lib.Dec.{ltb, leb}
+use borrow.Author.Tests.{ltb-false, lt-ltb, le-ltb, le-leb, lt-leb, eq-eqb, ne-eqb}
 use Rattle.layout.specs.declared.Refusal.{Refusal}
 use Rattle.layout.specs.Bytes.{if, sameBytes, part, refusal}
 use Rattle.layout.specs.Editions.{knownEdition}
 use Rattle.layout.specs.Read.{limit}
 use Rattle.parts.proofs.Loops.{unlike, same-pairs}
-use Rattle.rooms.specs.File.{Board, head, countIn, knownForm, headed, Row, rowsIn, rightFrom, sizes, boardsOf, Room, holds, wrong, readRows, readRoom}
-use Rattle.rooms.specs.Calls.{Opened, has, hasNot, openedBy, openRoom}
+use Rattle.rooms.specs.File.{Board, head, countIn, knownForm, headed, Row, rowsIn, rightFrom, sizes, Room, holds, wrong, readRows, readRoom}
+use Rattle.rooms.proofs.Reading.{boards-count, reads}
+use Rattle.rooms.specs.Calls.{has, hasNot, openedBy, openRoom}
 use Rattle.room_calls.specs.declared.Tally.{Tally}
 use Rattle.room_calls.specs.declared.Scan.the-variants.{Right, Wrong}
 use Rattle.room_calls.specs.declared.Found.the-variants.{At, Not}
 use Rattle.room_calls.specs.Rows.{tallied, scanned}
 use Rattle.room_calls.specs.Boards.{tallyOf, foundBy, boardsAt, Stored}
-use Rattle.room_calls.proofs.Boards.{Tallies, tally-boards, boards-count}
+use Rattle.room_calls.proofs.Boards.{Tallies, tally-boards}
 
 -- ---- the head
 
@@ -46,11 +47,6 @@ module _ (n : ℕ) (rs : List Row) where
       go true q = (refl, cc)
       go false q = let z : _≡_ {A = ℕ} 0 1 = cc in absurd (omega arith)
 
-rows-count : (n : ℕ) (s : List ℕ) → length (rowsIn n s) ≡ n
-unfolding rowsIn
-rows-count zero s = refl
-rows-count (suc n) s = ap suc (rows-count n (drop 8 s))
-
 -- ---- reading
 
 module _ (form : ℕ) (file : List ℕ) (wanted : ℕ) where
@@ -70,16 +66,16 @@ module _ (form : ℕ) (file : List ℕ) (wanted : ℕ) where
       ∙ and-false (knownForm form))
 
   module _ (h : headed form file ≡ true) (n : ℕ) (is : n ≡ countIn file) where
-    reads : (b : Bool) → leb (8 + 8 * n) (length file) ≡ b → readRoom form file ≡ if b (λ _. readRows (rowsIn n (drop 8 file)) (drop (8 + 8 * n) file)) (λ _. wrong)
+    by-rows : (b : Bool) → leb (8 + 8 * n) (length file) ≡ b → readRoom form file ≡ if b (λ _. readRows (rowsIn n (drop 8 file)) (drop (8 + 8 * n) file)) (λ _. wrong)
     unfolding readRoom
-    reads b l = rw (h, ← is, l)
+    by-rows b l = rw (h, ← is, l)
 
     pub rows-beyond : length file < 8 + 8 * n → Not (refusal 21 0) ≡ foundBy (openedBy (readRoom form file)) wanted
-    rows-beyond lt = refused (reads false (lt-leb (8 + 8 * n) (length file) lt))
+    rows-beyond lt = refused (by-rows false (lt-leb (8 + 8 * n) (length file) lt))
 
     module _ (le : 8 + 8 * n ≤ length file) where
       pub rows-wrong : scanned wanted (rowsIn n (drop 8 file)) ≡ Wrong → Not (refusal 21 0) ≡ foundBy (openedBy (readRoom form file)) wanted
-      rows-wrong q = refused (reads true (le-leb (8 + 8 * n) (length file) le) ∙ rw (scanned-wrong wanted (rowsIn n (drop 8 file)) q))
+      rows-wrong q = refused (by-rows true (le-leb (8 + 8 * n) (length file) le) ∙ rw (scanned-wrong wanted (rowsIn n (drop 8 file)) q))
 
       module _ {t : Tally} (q : scanned wanted (rowsIn n (drop 8 file)) ≡ Right t) where
         total : t .total ≡ sizes (rowsIn n (drop 8 file))
@@ -88,7 +84,7 @@ module _ (form : ℕ) (file : List ℕ) (wanted : ℕ) where
         pub rows-unended : (t .total ≡ length file - (8 + 8 * n) → ⊥) → Not (refusal 21 0) ≡ foundBy (openedBy (readRoom form file)) wanted
         rows-unended ne =
             refused
-            (reads true (le-leb (8 + 8 * n) (length file) le)
+            (by-rows true (le-leb (8 + 8 * n) (length file) le)
             ∙ rw (scanned-right wanted (rowsIn n (drop 8 file)) q .0, ne-eqb (sizes (rowsIn n (drop 8 file))) (length (drop (8 + 8 * n) file)) (λ e. ne (total ∙ e ∙ length-drop (8 + 8 * n) file))))
 
         pub rows-ended : t .total ≡ length file - (8 + 8 * n) → At n t ≡ foundBy (openedBy (readRoom form file)) wanted
@@ -96,8 +92,8 @@ module _ (form : ℕ) (file : List ℕ) (wanted : ℕ) where
             let ends : sizes (rowsIn n (drop 8 file)) ≡ length (drop (8 + 8 * n) file) = sym total ∙ e ∙ sym (length-drop (8 + 8 * n) file) in
             let right = scanned-right wanted (rowsIn n (drop 8 file)) q in
             let k = tally-boards wanted 0 (rowsIn n (drop 8 file)) (drop (8 + 8 * n) file) (right .0) (omega (arith, ends)) in
-            let room : readRoom form file ≡ holds (boardsAt n file) = reads true (le-leb (8 + 8 * n) (length file) le) ∙ rw (right .0, eq-eqb (sizes (rowsIn n (drop 8 file))) (length (drop (8 + 8 * n) file)) ends) in
-            let count : n ≡ length (boardsAt n file) = sym (boards-count (rowsIn n (drop 8 file)) (drop (8 + 8 * n) file) ∙ rows-count n (drop 8 file)) in
+            let room : readRoom form file ≡ holds (boardsAt n file) = by-rows true (le-leb (8 + 8 * n) (length file) le) ∙ rw (right .0, eq-eqb (sizes (rowsIn n (drop 8 file))) (length (drop (8 + 8 * n) file)) ends) in
+            let count : n ≡ length (boardsAt n file) = sym (boards-count n (drop 8 file) (drop (8 + 8 * n) file)) in
             let tally : t ≡ tallyOf wanted (boardsAt n file) = right .1 ∙ tally-is (rowsIn n (drop 8 file)) (boardsAt n file) k in
             ap₂ At count tally ∙ sym (ap (λ (x : Room). foundBy (openedBy x) wanted) room)
           where
@@ -126,36 +122,6 @@ module _ (form e : ℕ) (file : List ℕ) (lent wanted : ℕ) where
 
 -- ---- what is known of a file that is opened
 
-never : {A : Type 0} {bs : List Board} → wrong ≡ holds bs → A
-never q = let z : _≡_ {A = ℕ} 0 1 = cc in absurd (omega arith)
-
-record Holding (file : List ℕ) (bs : List Board) : Type 0 where
-  pub are : bs ≡ boardsAt (countIn file) file
-  pub whole : 8 + 8 * countIn file + sizes (rowsIn (countIn file) (drop 8 file)) ≡ length file
-
-module _ (form : ℕ) (file : List ℕ) (bs : List Board) where
-  abbrev rows : List Row
-  rows = rowsIn (countIn file) (drop 8 file)
-
-  abbrev bodies : List ℕ
-  bodies = drop (8 + 8 * countIn file) file
-
-  holding-rows : (a b : Bool) → 8 + 8 * countIn file ≤ length file → eqb (sizes rows) (length bodies) ≡ b → if (a && b) (λ _. holds (boardsOf rows bodies)) (λ _. wrong) ≡ holds bs → Holding file bs
-  holding-rows true true le l q =
-      let are : bs ≡ boardsOf rows bodies = cc in
-      record { are = are; whole = omega (arith, eqb-true (sizes rows) (length bodies) l, length-drop (8 + 8 * countIn file) file) }
-  holding-rows true false le l q = never q
-  holding-rows false b le l q = never q
-
-  holding : readRoom form file ≡ holds bs → Holding file bs
-  unfolding readRoom
-  holding q = go (headed form file) (leb (8 + 8 * countIn file) (length file)) refl q
-    where
-      go : (a b : Bool) → leb (8 + 8 * countIn file) (length file) ≡ b → if (a && b) (λ _. readRows rows bodies) (λ _. wrong) ≡ holds bs → Holding file bs
-      go true true l q = holding-rows (rightFrom 0 rows) (eqb (sizes rows) (length bodies)) (leb-true (8 + 8 * countIn file) (length file) l) refl q
-      go true false l q = never q
-      go false b l q = never q
-
 pub record Opens (form e : ℕ) (file : List ℕ) (lent n : ℕ) (t : Tally) (wanted : ℕ) : Type 0 where
   pub opens : openRoom form e file lent ≡ has (boardsAt n file)
   pub stored : Stored form file n t wanted
@@ -170,15 +136,17 @@ found form e file lent n t wanted q = go (knownEdition e) (ltb limit (length fil
 
     room : (x : Room) → readRoom form file ≡ x → length file ≤ limit → foundBy (openedBy x) wanted ≡ At n t → Stored form file n t wanted
     room (holds bs) r le q =
-        let k = holding form file bs r in
-        let count : countIn file ≡ n = sym (ap length (k .are) ∙ boards-count (rowsIn (countIn file) (drop 8 file)) (drop (8 + 8 * countIn file) file) ∙ rows-count (countIn file) (drop 8 file)) ∙ (let c : length bs ≡ n = cc in c) in
-        let are : bs ≡ boardsAt n file = k .are ∙ ap (λ (m : ℕ). boardsAt m file) count in
+        let k = reads form file bs r in
+        let many : length bs ≡ n = cc in
+        let count : countIn file ≡ n = sym (boards-count (countIn file) (drop 8 file) (drop (8 + 8 * countIn file) file)) ∙ ap length (k .is) ∙ many in
+        let are : bs ≡ boardsAt n file = sym (k .is) ∙ ap (λ (m : ℕ). boardsAt m file) count in
         let tally : tallyOf wanted bs ≡ t = cc in
+        let whole : 8 + 8 * countIn file + sizes (rowsIn (countIn file) (drop 8 file)) ≡ length file = omega (arith, k .long, k .sum, length-drop (8 + 8 * countIn file) file) in
         record {
           right = r ∙ ap holds are;
-          count = sym (let c : length bs ≡ n = cc in c) ∙ ap length are;
+          count = sym many ∙ ap length are;
           tally = sym tally ∙ ap (tallyOf wanted) are;
-          whole = rw count at (k .whole);
+          whole = rw count at whole;
           short = le;
         }
     room wrong r le q = not-found q

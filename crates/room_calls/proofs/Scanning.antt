@@ -1,19 +1,18 @@
 -- The pass over the rows of a file: one row more, and how it ends.
 -- Assumes nothing.
 use Prim.Native.Nat.{ℕ, zero, suc, _+_, _*_, _-_, _≤_, _<_}
-use mathlib.Core.Path.{_≡_, refl, ap, ap₂, sym, _∙_}
+use mathlib.Core.Path.{_≡_, refl, ap, ap₂, _∙_}
 use mathlib.Core.List.{List, [], _∷_}
 use mathlib.Core.Bool.{Bool, true, false}
 use native.Mathlib.Nat.{add-zero, zero-add}
 use native.Mathlib.Omega.{arith}
-use lib.ListN.{length, drop}
+use lib.ListN.{drop}
 use lib.Seq.{drop-drop}
 use lib.Dec.{ltb, eqb}
-use Rattle.layout.specs.Bytes.{if}
 use Rattle.rooms.specs.File.{Row, rowIn, rowsIn, rightFrom, sizes}
 use Rattle.room_calls.specs.declared.Tally.{Tally}
 use Rattle.room_calls.specs.declared.Scan.the-variants.{Right, Wrong}
-use Rattle.room_calls.specs.Rows.{rightRow, weigh, withRow, sum, lowRow, lowSize, ownSize, tallied, scanned}
+use Rattle.room_calls.specs.Rows.{rightRow, weigh, withRow, sum, lowRow, lowSize, ownSize, scanned}
 
 -- the rows at a place where there are more
 pub rows-more : (file : List ℕ) (at left : ℕ) → 0 < left → rowsIn left (drop at file) ≡ rowIn (drop at file) ∷ rowsIn (left - 1) (drop (at + 8) file)

@@ -1,9 +1,8 @@
 // The calls on a machine-room file: add, replace, remove and fetch a board. A body is judged by the reader's check alone.
 ghost use mathlib.Core.Path.{_≡_};
 ghost use mathlib.Core.List.{[], _∷_, _++_};
-ghost use mathlib.Core.Bool.{Bool};
-ghost use Prim.Native.Nat.{ℕ, _+_, _*_, _≤_, _<_};
-ghost use lib.ListN.{length, take, drop};
+ghost use Prim.Native.Nat.{_+_, _*_, _≤_, _<_};
+ghost use lib.ListN.{length, drop};
 ghost use Rattle.layout.specs.Bytes.{part, highFirst, refusal};
 ghost use Rattle.layout.specs.Read.{limit};
 ghost use Rattle.layout.specs.Calls.{checkImage};
@@ -339,7 +338,15 @@ fn lay_file(out: &mut [u8], form: u32, file: &[u8], n: usize, t: Tally, row: &[u
 }
 
 // The same where it fits, and else 12.
-fn put_file(out: &mut [u8], form: u32, file: &[u8], n: usize, t: Tally, row: &[u8], body: &[u8]) -> Made
+fn put_file(
+    out: &mut [u8],
+    form: u32,
+    file: &[u8],
+    n: usize,
+    t: Tally,
+    row: &[u8],
+    body: &[u8],
+) -> Made
     requires { ⌜ Lies (length (now file)) n t × (length (now file) ≤ limit) × (length (now row) ≤ 8) × (length (now out) ≤ limit) ⌝ }
     ensures { λ r. ⌜ r ≡ putBytes (laid form (now (file .entry)) n t (now (row .entry)) (now (body .entry))) (now (out .entry)) .answer ⌝ }
     ensures { λ r. ⌜ now (out .exit) ≡ putBytes (laid form (now (file .entry)) n t (now (row .entry)) (now (body .entry))) (now (out .entry)) .memory ⌝ }

@@ -121,7 +121,7 @@ boards-bodies [] s sum = empty s sum
 boards-bodies (r ∷ rs) s sum =
     rw (boards-bodies rs (drop (r .size) s) (omega (arith, sum, length-drop (r .size) s))) (take-append-drop (r .size) s)
 
-boards-count : (n : ℕ) (t s : List ℕ) → length (boardsOf (rowsIn n t) s) ≡ n
+pub boards-count : (n : ℕ) (t s : List ℕ) → length (boardsOf (rowsIn n t) s) ≡ n
 unfolding rowsIn boardsOf
 boards-count zero t s = refl
 boards-count (suc n) t s = ap suc (boards-count n (drop 8 t) (drop (rowIn t .size) s))
@@ -177,14 +177,14 @@ headed-begins form file by le e =
     go (eight a b c d f z h l t) by = two-below f z (by 4) (by 5)
 
 -- what is known of a file that is read as boards
-record Reads (form : ℕ) (file : List ℕ) (bs : List Board) : Type 0 where
-  long : bodiesAt form (countIn file) ≤ length file
-  begins : headed form file ≡ true
-  right : rightFrom 0 (rowsIn (countIn file) (drop (rowsAt form) file)) ≡ true
-  sum : sizes (rowsIn (countIn file) (drop (rowsAt form) file)) ≡ length (drop (bodiesAt form (countIn file)) file)
-  is : boardsOf (rowsIn (countIn file) (drop (rowsAt form) file)) (drop (bodiesAt form (countIn file)) file) ≡ bs
+pub record Reads (form : ℕ) (file : List ℕ) (bs : List Board) : Type 0 where
+  pub long : bodiesAt form (countIn file) ≤ length file
+  pub begins : headed form file ≡ true
+  pub right : rightFrom 0 (rowsIn (countIn file) (drop (rowsAt form) file)) ≡ true
+  pub sum : sizes (rowsIn (countIn file) (drop (rowsAt form) file)) ≡ length (drop (bodiesAt form (countIn file)) file)
+  pub is : boardsOf (rowsIn (countIn file) (drop (rowsAt form) file)) (drop (bodiesAt form (countIn file)) file) ≡ bs
 
-reads : (form : ℕ) (file : List ℕ) (bs : List Board) → readRoom form file ≡ holds bs → Reads form file bs
+pub reads : (form : ℕ) (file : List ℕ) (bs : List Board) → readRoom form file ≡ holds bs → Reads form file bs
 unfolding readRoom
 reads form file bs q =
     let n = countIn file in

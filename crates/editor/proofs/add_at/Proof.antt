@@ -9,7 +9,7 @@ use Rattle.layout.specs.Shape.{Shape}
 use Rattle.layout.specs.Editions.{shape}
 use Rattle.layout.specs.Write.{Outcome, imageOf, put, fieldContent}
 use Rattle.laws.specs.Passes.{walked, rawsIn}
-use Rattle.laws.proofs.Calls.{outcome}
+use Rattle.layout.proofs.Outcomes.{outcome}
 use Rattle.laws.proofs.Names.{named-byte}
 use Rattle.laws.proofs.Writing.{writer-parts}
 use Rattle.editor.specs.declared.Fresh.the-variants.{Entry}

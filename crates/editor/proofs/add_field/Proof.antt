@@ -8,7 +8,7 @@ use Rattle.layout.specs.Editions.{shape}
 use Rattle.layout.specs.Write.{Outcome, fieldAt, fieldsIn}
 use Rattle.layout.specs.Add.{addition}
 use Rattle.laws.specs.Passes.{walked, rawsIn}
-use Rattle.laws.proofs.Calls.{outcome}
+use Rattle.layout.proofs.Outcomes.{outcome}
 use Rattle.editor.specs.Here.{addAt}
 use Rattle.editor.proofs.Changes.{change-refused}
 use Rattle.editor.proofs.Adding.{add-ready, add-none, add-first}

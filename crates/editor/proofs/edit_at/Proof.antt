@@ -7,7 +7,7 @@ use denote.Ref.{now}
 use borrow.Author.Tests.{not-true, not-false}
 use Rattle.layout.specs.Editions.{shape}
 use Rattle.layout.specs.Write.{Outcome}
-use Rattle.laws.proofs.Calls.{outcome}
+use Rattle.layout.proofs.Outcomes.{outcome}
 use Rattle.editor.specs.Here.{spliced}
 use Rattle.editor.proofs.Changes.{edit-unnamed, edit-length, edit-value, edit-put}
 use Rattle.editor.proofs.edit_at.Statement.{statement}

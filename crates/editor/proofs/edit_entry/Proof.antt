@@ -6,7 +6,7 @@ use denote.Ref.{now}
 use lib.ListN.{length}
 use Rattle.layout.specs.Write.{Outcome}
 use Rattle.layout.specs.Edit.{edit}
-use Rattle.laws.proofs.Calls.{outcome}
+use Rattle.layout.proofs.Outcomes.{outcome}
 use Rattle.editor.proofs.Changes.{taken-is, change-refused, edit-nowhere, edit-here}
 use Rattle.editor.proofs.edit_entry.Statement.{statement}
 use Rattle.editor.proofs.edit_entry.Tie as tie

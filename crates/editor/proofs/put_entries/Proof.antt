@@ -3,7 +3,7 @@
 use borrow.Author.Needs.{needs}
 use denote.Ref.{now}
 use borrow.Author.Tests.{not-true, not-false}
-use Rattle.laws.proofs.Calls.{outcome}
+use Rattle.layout.proofs.Outcomes.{outcome}
 use Rattle.editor.proofs.Splicing.{spliced-not, spliced-room, spliced-put}
 use Rattle.editor.proofs.put_entries.Statement.{statement}
 use Rattle.editor.proofs.put_entries.Tie as tie

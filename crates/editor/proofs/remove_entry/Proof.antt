@@ -6,7 +6,7 @@ use denote.Ref.{now}
 use lib.ListN.{length}
 use Rattle.layout.specs.Write.{Outcome}
 use Rattle.layout.specs.Remove.{removal}
-use Rattle.laws.proofs.Calls.{outcome}
+use Rattle.layout.proofs.Outcomes.{outcome}
 use Rattle.editor.proofs.Changes.{taken-is, change-refused, remove-nowhere, remove-here}
 use Rattle.editor.proofs.remove_entry.Statement.{statement}
 use Rattle.editor.proofs.remove_entry.Tie as tie

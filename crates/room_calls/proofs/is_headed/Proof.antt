@@ -11,7 +11,7 @@ use Rattle.room_calls.proofs.is_headed.Tie as tie
 
 returns : tie.Need-returns
 unfolding headed
-returns c = rw (ne-eqb (c  .before .before .args .form) 1 (c .if1 .taken))
+returns c = rw (ne-eqb (c .before .before .args .form) 1 (c .if1 .taken))
 
 two-at-requires : tie.Need-two-at-requires
 two-at-requires c κs = search needs
@@ -26,7 +26,7 @@ is-stored-requires : tie.Need-is-stored-requires
 is-stored-requires c κs = search needs
 
 returns-2 : tie.Need-returns-2
-returns-2 c = let a = c  .before .before .before .before .before .before .args in c .is-stored .ensures ∙ headed-is (a .form) (now (a .file)) (c  .before .before .before .before .if1 .left) (c  .before .before .before .two-at .ensures .0) (c  .before .before .head-bytes .ensures)
+returns-2 c = let a = c .before .before .before .before .before .before .args in c .is-stored .ensures ∙ headed-is (a .form) (now (a .file)) (c .before .before .before .before .if1 .left) (c .before .before .before .two-at .ensures .0) (c .before .before .head-bytes .ensures)
 
 pub is-headed-spec : {M : Type 1} → statement M
 is-headed-spec =

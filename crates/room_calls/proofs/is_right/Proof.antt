@@ -23,7 +23,7 @@ size-at-requires : tie.Need-size-at-requires
 size-at-requires c κs = search needs
 
 returns : tie.Need-returns
-returns c = let a = c  .before .before .before .before .args in rw (c  .before .before .number-at .ensures, c .before .byte-at .ensures ∙ row-zero (now (a .file)) (a .at), c .size-at .ensures .0)
+returns c = let a = c .before .before .before .before .args in rw (c .before .before .number-at .ensures, c .before .byte-at .ensures ∙ row-zero (now (a .file)) (a .at), c .size-at .ensures .0)
 
 pub is-right-spec : {M : Type 1} → statement M
 is-right-spec =

@@ -29,13 +29,13 @@ enum-known-x : tie.Need-enum-known-x
 enum-known-x c = search needs
 
 add-t15 : tie.Need-add-t15
-add-t15 c = let a = c  .before .before .before .before .before .before .before .before .args in omega (arith, body-place (a .format) (a .edition) (now (a .s)) (a .p) (a .size) (c  .before .before .before .before .before .check-image .ensures) (c  .before .before .before .x .given .1), c  .before .before .before .before .before .before .before .before .pre .1)
+add-t15 c = let a = c .before .before .before .before .before .before .before .before .args in omega (arith, body-place (a .format) (a .edition) (now (a .s)) (a .p) (a .size) (c .before .before .before .before .before .check-image .ensures) (c .before .before .before .x .given .1), c .before .before .before .before .before .before .before .before .pre .1)
 
 returns : tie.Need-returns
-returns c = let a = c  .before .before .before .before .before .args in body-fine (a .format) (a .edition) (now (a .s)) (a .p) (a .size) (c  .before .before .check-image .ensures) (c .enum-told .given .1)
+returns c = let a = c .before .before .before .before .before .args in body-fine (a .format) (a .edition) (now (a .s)) (a .p) (a .size) (c .before .before .check-image .ensures) (c .enum-told .given .1)
 
 returns-2 : tie.Need-returns-2
-returns-2 c = let a = c  .before .before .before .before .before .before .before .before .args in body-faulty (a .format) (a .edition) (now (a .s)) (a .p) (a .size) (c  .before .before .before .before .before .check-image .ensures) (c  .before .before .before .x .given .1)
+returns-2 c = let a = c .before .before .before .before .before .before .before .before .args in body-faulty (a .format) (a .edition) (now (a .s)) (a .p) (a .size) (c .before .before .before .before .before .check-image .ensures) (c .before .before .before .x .given .1)
 
 pub judge-body-spec : {M : Type 1} → statement M
 judge-body-spec =

@@ -47,7 +47,7 @@ add-put-between : tie.Need-add-put-between
 add-put-between c = search needs
 
 put-between-requires : tie.Need-put-between-requires
-put-between-requires c κs = let b = c  .before .before .before .before .before .before .before .before .before .before .before .before .before in let a = b .args in let l = b .pre .0 .0 in let g = c  .before .before .before .before .before .before .before .before .rows-gone .ensures .0 in let o = ap length (c  .before .before .before .before .copy-at .ensures) ∙ length-copied (now (a .out)) 0 (c  .before .before .before .before .before .before .before .head-bytes .result) in ((omega arith, omega (arith, l .rows, l .bodies), omega (arith, l .rows, g), omega (arith, l .bodies)), (omega (arith, rows-room (a .form) (now (a .file)) (a .n) (a .t) (now (a .row)) (now (a .body)) l (now (a .out)) g (b .pre .1 .0), o), omega (arith, o, b .pre .1 .1)))
+put-between-requires c κs = let b = c .before .before .before .before .before .before .before .before .before .before .before .before .before in let a = b .args in let l = b .pre .0 .0 in let g = c .before .before .before .before .before .before .before .before .rows-gone .ensures .0 in let o = ap length (c .before .before .before .before .copy-at .ensures) ∙ length-copied (now (a .out)) 0 (c .before .before .before .before .before .before .before .head-bytes .result) in ((omega arith, omega (arith, l .rows, l .bodies), omega (arith, l .rows, g), omega (arith, l .bodies)), (omega (arith, rows-room (a .form) (now (a .file)) (a .n) (a .t) (now (a .row)) (now (a .body)) l (now (a .out)) g (b .pre .1 .0), o), omega (arith, o, b .pre .1 .1)))
 
 add-middle : tie.Need-add-middle
 add-middle c = search needs
@@ -65,13 +65,13 @@ add-put-between-3 : tie.Need-add-put-between-3
 add-put-between-3 c = search needs
 
 put-between-requires-2 : tie.Need-put-between-requires-2
-put-between-requires-2 c κs = let b = c  .before .before .before .before .before .before .before .before .before .before .before .before .before .before .before .before .before .before .before in let a = b .args in let l = b .pre .0 .0 in let g = c  .before .before .before .before .before .before .before .before .before .before .before .before .before .before .rows-gone .ensures .0 in let o = ap length (c  .before .before .before .before .before .before .before .before .before .before .copy-at .ensures) ∙ length-copied (now (a .out)) 0 (c  .before .before .before .before .before .before .before .before .before .before .before .before .before .head-bytes .result) in let p = simp length-copied at (ap length (c  .before .before .before .before .before .put-between .ensures)) in ((omega arith, omega (arith, l .bodies), l .bodies, omega arith), (omega (arith, bodies-room (a .form) (now (a .file)) (a .n) (a .t) (now (a .row)) (now (a .body)) l (now (a .out)) g (b .pre .1 .0), o, p), omega (arith, o, p, b .pre .1 .1)))
+put-between-requires-2 c κs = let b = c .before .before .before .before .before .before .before .before .before .before .before .before .before .before .before .before .before .before .before in let a = b .args in let l = b .pre .0 .0 in let g = c .before .before .before .before .before .before .before .before .before .before .before .before .before .before .rows-gone .ensures .0 in let o = ap length (c .before .before .before .before .before .before .before .before .before .before .copy-at .ensures) ∙ length-copied (now (a .out)) 0 (c .before .before .before .before .before .before .before .before .before .before .before .before .before .head-bytes .result) in let p = simp length-copied at (ap length (c .before .before .before .before .before .put-between .ensures)) in ((omega arith, omega (arith, l .bodies), l .bodies, omega arith), (omega (arith, bodies-room (a .form) (now (a .file)) (a .n) (a .t) (now (a .row)) (now (a .body)) l (now (a .out)) g (b .pre .1 .0), o, p), omega (arith, o, p, b .pre .1 .1)))
 
 same-length : tie.Need-same-length
 same-length c = search needs
 
 returns : tie.Need-returns
-returns c = let b = c  .before .before .before .before .before .before .before .before .before .before .before .before .before .before .before .before .before .before .before .before .before .before in let a = b .args in laid-put (a .form) (now (a .file)) (a .n) (a .t) (now (a .row)) (now (a .body)) (b .pre .0 .0) (now (a .out)) (c  .before .before .before .before .before .before .before .before .before .before .before .before .before .before .before .before .before .rows-gone .ensures .0) (c  .before .before .before .before .before .before .before .before .before .before .before .before .before .before .before .before .head-bytes .ensures) (c  .before .before .before .before .before .before .before .before .before .before .before .before .before .copy-at .ensures) (c  .before .before .before .before .before .before .before .before .put-between .ensures) (c  .before .before .put-between2 .ensures) (b .pre .1 .0)
+returns c = let b = c .before .before .before .before .before .before .before .before .before .before .before .before .before .before .before .before .before .before .before .before .before .before in let a = b .args in laid-put (a .form) (now (a .file)) (a .n) (a .t) (now (a .row)) (now (a .body)) (b .pre .0 .0) (now (a .out)) (c .before .before .before .before .before .before .before .before .before .before .before .before .before .before .before .before .before .rows-gone .ensures .0) (c .before .before .before .before .before .before .before .before .before .before .before .before .before .before .before .before .head-bytes .ensures) (c .before .before .before .before .before .before .before .before .before .before .before .before .before .copy-at .ensures) (c .before .before .before .before .before .before .before .before .put-between .ensures) (c .before .before .put-between2 .ensures) (b .pre .1 .0)
 
 pub lay-file-spec : {M : Type 1} → statement M
 lay-file-spec =

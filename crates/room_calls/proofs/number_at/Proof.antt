@@ -28,7 +28,7 @@ add-result : tie.Need-add-result
 add-result c = search needs
 
 returns : tie.Need-returns
-returns c = let b = c  .before .before .before in rw (c .before .two-at .ensures .0, c .two-at2 .ensures .0) (row-number (now (b .args .file)) (b .args .at) (b .pre))
+returns c = let b = c .before .before .before in rw (c .before .two-at .ensures .0, c .two-at2 .ensures .0) (row-number (now (b .args .file)) (b .args .at) (b .pre))
 
 pub number-at-spec : {M : Type 1} → statement M
 number-at-spec =

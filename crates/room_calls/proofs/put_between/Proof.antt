@@ -26,7 +26,7 @@ copy-at-requires-2 : tie.Need-copy-at-requires-2
 copy-at-requires-2 c κs = search needs
 
 add-copy-at : tie.Need-add-copy-at
-add-copy-at c = let b = c  .before .before .before .before .before .before .before .before .before .before .before .before .before in let a = b .args in omega (arith, between-room (now (a .out)) (a .to) (a .from) (a .cut) (a .next) (a .end) (now (a .new)) (now (a .file)) (b .pre .1 .0), b .pre .1 .1)
+add-copy-at c = let b = c .before .before .before .before .before .before .before .before .before .before .before .before .before in let a = b .args in omega (arith, between-room (now (a .out)) (a .to) (a .from) (a .cut) (a .next) (a .end) (now (a .new)) (now (a .file)) (b .pre .1 .0), b .pre .1 .1)
 
 sub-copy-at : tie.Need-sub-copy-at
 sub-copy-at c = search needs
@@ -44,7 +44,7 @@ same-length : tie.Need-same-length
 same-length c = search needs
 
 returns : tie.Need-returns
-returns c = let b = c  .before .before .before .before .before .before .before .before .before .before .before .before .before .before .before .before .before in let a = b .args in between-put (now (a .out)) (a .to) (a .from) (a .cut) (a .next) (a .end) (now (a .new)) (now (a .file)) (c  .before .before .before .before .before .before .before .before .before .before .before .copy-at .ensures) (c  .before .before .before .before .before .before .before .copy-at2 .ensures) (c  .before .before .copy-at3 .ensures) (b .pre .1 .0)
+returns c = let b = c .before .before .before .before .before .before .before .before .before .before .before .before .before .before .before .before .before in let a = b .args in between-put (now (a .out)) (a .to) (a .from) (a .cut) (a .next) (a .end) (now (a .new)) (now (a .file)) (c .before .before .before .before .before .before .before .before .before .before .before .copy-at .ensures) (c .before .before .before .before .before .before .before .copy-at2 .ensures) (c .before .before .copy-at3 .ensures) (b .pre .1 .0)
 
 pub put-between-spec : {M : Type 1} → statement M
 put-between-spec =

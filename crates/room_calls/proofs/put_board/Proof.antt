@@ -1,12 +1,13 @@
 -- `room_calls::put_board` meets its contract: the stored bodies, the new one, and the file.
 -- Assumes nothing.
 use denote.Ref.{now}
-use mathlib.Core.Path.{refl, ap, sym, _∙_}
+use mathlib.Core.Path.{sym, _∙_}
 use Prim.Native.Nat.{ℕ, _<_}
 use mathlib.Core.List.{List, [], _∷_}
 use Rattle.rooms.specs.File.{Board, board}
 use lib.ListN.{getD}
-use Rattle.room_calls.proofs.Calling.{answers, answers-as, lies, change-stored, change-new, change-put, new-fine, new-faulty, new-row, new-body}
+use Rattle.layout.proofs.Outcomes.{outcome, outcome-as}
+use Rattle.room_calls.proofs.Calling.{lies, change-stored, change-new, change-put, new-fine, new-faulty, new-row, new-body}
 use borrow.Author.Needs.{needs}
 use Rattle.room_calls.proofs.put_board.Statement.{statement}
 use Rattle.room_calls.proofs.put_board.Tie as tie
@@ -36,19 +37,19 @@ slice-aggregate-put-file : tie.Need-slice-aggregate-put-file
 slice-aggregate-put-file c = search needs
 
 put-file-requires : tie.Need-put-file-requires
-put-file-requires c κs = let b = c  .before .before .before .before .before .before .before .before .before .before .before .before in (lies (b .pre .0) (λ i. c  .before .before .before .before .before .before .before .before .before .before .shared-slice-known .given i .fits), b .pre .0 .short, search needs, b .pre .1)
+put-file-requires c κs = let b = c .before .before .before .before .before .before .before .before .before .before .before .before in (lies (b .pre .0) (λ i. c .before .before .before .before .before .before .before .before .before .before .shared-slice-known .given i .fits), b .pre .0 .short, search needs, b .pre .1)
 
 returns : tie.Need-returns
-returns c = let b = c  .before .before .before .before .before .before .before in let a = b .args in let bytes : (i : ℕ) → getD (now (a .file)) i 0 < 256 = λ i. c  .before .before .before .before .before .shared-slice-known .given i .fits in let new : List Board = board (a .number) (a .format) (now (a .body)) ∷ [] in answers (change-stored (b .pre .0) bytes (a .edition) new (now (a .out)) (sym (c  .before .stored .given .1) ∙ c  .before .before .before .judge-bodies .ensures))
+returns c = let b = c .before .before .before .before .before .before .before in let a = b .args in let bytes : (i : ℕ) → getD (now (a .file)) i 0 < 256 = λ i. c .before .before .before .before .before .shared-slice-known .given i .fits in let new : List Board = board (a .number) (a .format) (now (a .body)) ∷ [] in outcome (change-stored (b .pre .0) bytes (a .edition) new (now (a .out)) (sym (c .before .stored .given .1) ∙ c .before .before .before .judge-bodies .ensures))
 
 returns-2 : tie.Need-returns-2
-returns-2 c = let b = c  .before .before .before .before .before .before .before .before .before .before in let a = b .args in let bytes : (i : ℕ) → getD (now (a .file)) i 0 < 256 = λ i. c  .before .before .before .before .before .before .before .before .shared-slice-known .given i .fits in let new : List Board = board (a .number) (a .format) (now (a .body)) ∷ [] in answers (change-new (b .pre .0) bytes (a .edition) new (now (a .out)) (sym (c  .before .before .before .before .enum-told .given .1) ∙ c  .before .before .before .before .before .before .judge-bodies .ensures) (new-faulty (a .edition) (a .number) (a .format) (now (a .body)) (sym (c  .before .new .given .1) ∙ c  .before .before .before .judge-body .ensures)))
+returns-2 c = let b = c .before .before .before .before .before .before .before .before .before .before in let a = b .args in let bytes : (i : ℕ) → getD (now (a .file)) i 0 < 256 = λ i. c .before .before .before .before .before .before .before .before .shared-slice-known .given i .fits in let new : List Board = board (a .number) (a .format) (now (a .body)) ∷ [] in outcome (change-new (b .pre .0) bytes (a .edition) new (now (a .out)) (sym (c .before .before .before .before .enum-told .given .1) ∙ c .before .before .before .before .before .before .judge-bodies .ensures) (new-faulty (a .edition) (a .number) (a .format) (now (a .body)) (sym (c .before .new .given .1) ∙ c .before .before .before .judge-body .ensures)))
 
 same-length : tie.Need-same-length
 same-length c = search needs
 
 returns-3 : tie.Need-returns-3
-returns-3 c = let b = c  .before .before .before .before .before .before .before .before .before .before .before .before .before .before .before in let a = b .args in let bytes : (i : ℕ) → getD (now (a .file)) i 0 < 256 = λ i. c  .before .before .before .before .before .before .before .before .before .before .before .before .before .shared-slice-known .given i .fits in let new : List Board = board (a .number) (a .format) (now (a .body)) ∷ [] in answers-as (c  .before .before .put-file .ensures) (change-put (b .pre .0) bytes (a .edition) new (now (a .out)) (sym (c  .before .before .before .before .before .before .before .before .before .enum-told .given .1) ∙ c  .before .before .before .before .before .before .before .before .before .before .before .judge-bodies .ensures) (new-fine (a .edition) (a .number) (a .format) (now (a .body)) (sym (c  .before .before .before .before .before .before .enum-told2 .given .1) ∙ c  .before .before .before .before .before .before .before .before .judge-body .ensures)) (new-row (a .edition) (a .number) (a .format) (now (a .body)) ∙ sym (c  .before .before .before .before .before .row-bytes .ensures)) (new-body (a .edition) (a .number) (a .format) (now (a .body))))
+returns-3 c = let b = c .before .before .before .before .before .before .before .before .before .before .before .before .before .before .before in let a = b .args in let bytes : (i : ℕ) → getD (now (a .file)) i 0 < 256 = λ i. c .before .before .before .before .before .before .before .before .before .before .before .before .before .shared-slice-known .given i .fits in let new : List Board = board (a .number) (a .format) (now (a .body)) ∷ [] in outcome-as (c .before .before .put-file .ensures) (change-put (b .pre .0) bytes (a .edition) new (now (a .out)) (sym (c .before .before .before .before .before .before .before .before .before .enum-told .given .1) ∙ c .before .before .before .before .before .before .before .before .before .before .before .judge-bodies .ensures) (new-fine (a .edition) (a .number) (a .format) (now (a .body)) (sym (c .before .before .before .before .before .before .enum-told2 .given .1) ∙ c .before .before .before .before .before .before .before .before .judge-body .ensures)) (new-row (a .edition) (a .number) (a .format) (now (a .body)) ∙ sym (c .before .before .before .before .before .row-bytes .ensures)) (new-body (a .edition) (a .number) (a .format) (now (a .body))))
 
 pub put-board-spec : {M : Type 1} → statement M
 put-board-spec =

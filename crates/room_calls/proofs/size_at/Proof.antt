@@ -14,7 +14,7 @@ two-at-requires : tie.Need-two-at-requires
 two-at-requires c κs = search needs
 
 returns : tie.Need-returns
-returns c = let a = c  .before .before .args in (c .two-at .ensures .0 ∙ row-size (now (a .file)) (a .at), c .two-at .ensures .1)
+returns c = let a = c .before .before .args in (c .two-at .ensures .0 ∙ row-size (now (a .file)) (a .at), c .two-at .ensures .1)
 
 pub size-at-spec : {M : Type 1} → statement M
 size-at-spec = tie.close (tie.spec add-two-at two-at-requires returns)

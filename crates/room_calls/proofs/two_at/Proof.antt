@@ -28,7 +28,7 @@ add-result : tie.Need-add-result
 add-result c = search needs
 
 returns : tie.Need-returns
-returns c = let b = c  .before .before .before in (rw (c .before .byte-at .ensures, c .byte-at2 .ensures) (two-at (now (b .args .s)) (b .args .at) (b .pre)), search needs)
+returns c = let b = c .before .before .before in (rw (c .before .byte-at .ensures, c .byte-at2 .ensures) (two-at (now (b .args .s)) (b .args .at) (b .pre)), search needs)
 
 pub two-at-spec : {M : Type 1} → statement M
 two-at-spec =

@@ -17,16 +17,16 @@ add-t8 : tie.Need-add-t8
 add-t8 c = search needs
 
 returns : tie.Need-returns
-returns c = let a = c  .before .before .before .before .args in rw (lt-ltb (a .number) (a .wanted) (c  .before .before .if1 .taken), ne-eqb (a .number) (a .wanted) (λ e. omega (arith, c  .before .before .if1 .taken)), add-zero)
+returns c = let a = c .before .before .before .before .args in rw (lt-ltb (a .number) (a .wanted) (c .before .before .if1 .taken), ne-eqb (a .number) (a .wanted) (λ e. omega (arith, c .before .before .if1 .taken)), add-zero)
 
 add-t9 : tie.Need-add-t9
 add-t9 c = search needs
 
 returns-2 : tie.Need-returns-2
-returns-2 c = let a = c  .before .before .before .before .args in rw (le-ltb (a .number) (a .wanted) (c  .before .before .if1 .left), eq-eqb (a .number) (a .wanted) (c .before .if2 .taken)) (simp add-zero)
+returns-2 c = let a = c .before .before .before .before .args in rw (le-ltb (a .number) (a .wanted) (c .before .before .if1 .left), eq-eqb (a .number) (a .wanted) (c .before .if2 .taken)) (simp add-zero)
 
 returns-3 : tie.Need-returns-3
-returns-3 c = let a = c  .before .before .before .args in rw (le-ltb (a .number) (a .wanted) (c .before .if1 .left), ne-eqb (a .number) (a .wanted) (c .if2 .left)) (simp add-zero)
+returns-3 c = let a = c .before .before .before .args in rw (le-ltb (a .number) (a .wanted) (c .before .if1 .left), ne-eqb (a .number) (a .wanted) (c .if2 .left)) (simp add-zero)
 
 pub with-row-spec : {M : Type 1} → statement M
 with-row-spec = tie.close (tie.spec add-total add-t7 add-t8 returns add-t9 returns-2 returns-3)

@@ -12,7 +12,7 @@ use Rattle.blocks.specs.Payload.{payloadOf, cutInto}
 use Rattle.blocks.specs.Vendor.{piecesIn}
 use Rattle.vendor.proofs.Taking.{joined-there}
 use Rattle.blocks.proofs.Lengths.{length-payload, length-values}
-use Rattle.laws.proofs.Calls.{outcome}
+use Rattle.layout.proofs.Outcomes.{outcome}
 use Rattle.vendor.proofs.Making.{values-short, values-fit}
 use borrow.Author.Needs.{needs}
 use Rattle.vendor.proofs.put_values.Statement.{statement}

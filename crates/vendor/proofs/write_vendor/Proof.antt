@@ -5,7 +5,7 @@ use denote.Ref.{now}
 use Rattle.layout.specs.Write.{Outcome}
 use Rattle.blocks.specs.Vendor.{piecesIn}
 use Rattle.blocks.proofs.Asking.{write-unasked}
-use Rattle.laws.proofs.Calls.{outcome}
+use Rattle.layout.proofs.Outcomes.{outcome}
 use Rattle.vendor.proofs.Making.{write-short, write-serial, write-wrong, write-right}
 use borrow.Author.Needs.{needs}
 use Rattle.vendor.proofs.write_vendor.Statement.{statement}
