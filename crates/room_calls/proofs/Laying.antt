@@ -92,10 +92,11 @@ module _ (form : ℕ) (file : List ℕ) (n : ℕ) (t : Tally) (row body : List �
       length-between 8 (8 + 8 * t .rows) (8 + 8 * t .rows + 8 * rowsGone (t .own)) (8 + 8 * n) row file (omega arith) (omega (arith, lies .rows, lies .bodies)) (omega (arith, lies .rows)) (omega (arith, lies .bodies))
       ∙ omega (arith, lies .rows)
 
-  pub length-new-bodies : length (between (8 + 8 * n) (8 + 8 * n + t .below) (8 + 8 * n + t .below + t .own) (length file) body file) ≡ length file - (8 + 8 * n) - t .own + length body
-  length-new-bodies =
-      length-between (8 + 8 * n) (8 + 8 * n + t .below) (8 + 8 * n + t .below + t .own) (length file) body file (omega arith) (omega (arith, lies .bodies)) (lies .bodies) (omega arith)
-      ∙ omega (arith, lies .bodies)
+  -- wherever the body that goes stands
+  pub length-new-bodies : (cut : ℕ) → 8 + 8 * n ≤ cut → cut + t .own ≤ length file →
+      length (between (8 + 8 * n) cut (cut + t .own) (length file) body file) ≡ length file - (8 + 8 * n) - t .own + length body
+  length-new-bodies cut from to =
+      length-between (8 + 8 * n) cut (cut + t .own) (length file) body file from (omega (arith, to)) to (omega arith) ∙ omega (arith, from, to)
 
   pub length-laid : length (laid form file n t row body) ≡ length file - 8 * rowsGone (t .own) - t .own + length row + length body
   unfolding laid
@@ -103,7 +104,7 @@ module _ (form : ℕ) (file : List ℕ) (n : ℕ) (t : Tally) (row body : List �
       let h : List ℕ = head form (n - rowsGone (t .own) + length row / 8) in
       let rs : List ℕ = between 8 (8 + 8 * t .rows) (8 + 8 * t .rows + 8 * rowsGone (t .own)) (8 + 8 * n) row file in
       let bs : List ℕ = between (8 + 8 * n) (8 + 8 * n + t .below) (8 + 8 * n + t .below + t .own) (length file) body file in
-      omega (arith, length-append h (rs ++ bs), length-append rs bs, head-length form (n - rowsGone (t .own) + length row / 8), length-new-rows, length-new-bodies, lies .rows, lies .bodies)
+      omega (arith, length-append h (rs ++ bs), length-append rs bs, head-length form (n - rowsGone (t .own) + length row / 8), length-new-rows, length-new-bodies (8 + 8 * n + t .below) (omega arith) (lies .bodies), lies .rows, lies .bodies)
 
   module _ (out : List ℕ) where
     pub laid-short : length out < length file - 8 * rowsGone (t .own) - t .own + length row + length body → putBytes (laid form file n t row body) out ≡ refuse (refusal 12 0) out
@@ -121,8 +122,9 @@ module _ (form : ℕ) (file : List ℕ) (n : ℕ) (t : Tally) (row body : List �
     pub rows-room : 8 + length (between 8 (8 + 8 * t .rows) (8 + 8 * t .rows + 8 * gone) (8 + 8 * n) row file) ≤ length out
     rows-room = rw is (omega (arith, length-new-rows form file n t row body lies, length-laid form file n t row body lies, lies .rows, lies .bodies))
 
-    pub bodies-room : 8 + 8 * n - 8 * gone + length row + length (between (8 + 8 * n) (8 + 8 * n + t .below) (8 + 8 * n + t .below + t .own) (length file) body file) ≤ length out
-    bodies-room = rw is (omega (arith, length-new-bodies form file n t row body lies, length-laid form file n t row body lies, lies .rows, lies .bodies))
+    pub bodies-room : (cut : ℕ) → 8 + 8 * n ≤ cut → cut + t .own ≤ length file →
+        8 + 8 * n - 8 * gone + length row + length (between (8 + 8 * n) cut (cut + t .own) (length file) body file) ≤ length out
+    bodies-room cut from to = rw is (omega (arith, length-new-bodies form file n t row body lies cut from to, length-laid form file n t row body lies, lies .rows, lies .bodies))
 
   pub laid-put : {h d₁ d₂ d₃ : List ℕ} → h ≡ head form (n - gone + length row / 8) → d₁ ≡ copied out 0 h →
       d₂ ≡ copied d₁ 8 (between 8 (8 + 8 * t .rows) (8 + 8 * t .rows + 8 * gone) (8 + 8 * n) row file) →

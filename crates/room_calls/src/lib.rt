@@ -148,8 +148,8 @@ fn scan_rows(file: &[u8], start: usize, n: usize, wanted: u32) -> Scan
     };
     let mut at = start;
     let mut low: u64 = 0;
-    let mut left = n;
-    while 0 < left {
+    let mut rest = n;
+    while 0 < rest {
         if !is_right(file, at, low) {
             return Scan::Wrong;
         }
@@ -157,7 +157,7 @@ fn scan_rows(file: &[u8], start: usize, n: usize, wanted: u32) -> Scan
         t = with_row(t, number, size_at(file, at), wanted);
         low = (number as u64) + 1;
         at += 8;
-        left -= 1;
+        rest -= 1;
     }
     Scan::Right(t)
 }

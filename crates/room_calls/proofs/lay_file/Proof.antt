@@ -1,5 +1,6 @@
 -- `room_calls::lay_file` meets its contract: the head, the rows, the bodies.
 -- Assumes nothing.
+use Prim.Native.Nat.{_+_, _*_}
 use denote.Ref.{now}
 use mathlib.Core.Path.{ap, _∙_}
 use lib.ListN.{length}
@@ -65,7 +66,7 @@ add-put-between-3 : tie.Need-add-put-between-3
 add-put-between-3 c = search needs
 
 put-between-requires-2 : tie.Need-put-between-requires-2
-put-between-requires-2 c κs = let b = c .before .before .before .before .before .before .before .before .before .before .before .before .before .before .before .before .before .before .before in let a = b .args in let l = b .pre .0 .0 in let g = c .before .before .before .before .before .before .before .before .before .before .before .before .before .before .rows-gone .ensures .0 in let o = ap length (c .before .before .before .before .before .before .before .before .before .before .copy-at .ensures) ∙ length-copied (now (a .out)) 0 (c .before .before .before .before .before .before .before .before .before .before .before .before .before .head-bytes .result) in let p = simp length-copied at (ap length (c .before .before .before .before .before .put-between .ensures)) in ((omega arith, omega (arith, l .bodies), l .bodies, omega arith), (omega (arith, bodies-room (a .form) (now (a .file)) (a .n) (a .t) (now (a .row)) (now (a .body)) l (now (a .out)) g (b .pre .1 .0), o, p), omega (arith, o, p, b .pre .1 .1)))
+put-between-requires-2 c κs = let b = c .before .before .before .before .before .before .before .before .before .before .before .before .before .before .before .before .before .before .before in let a = b .args in let l = b .pre .0 .0 in let g = c .before .before .before .before .before .before .before .before .before .before .before .before .before .before .rows-gone .ensures .0 in let o = ap length (c .before .before .before .before .before .before .before .before .before .before .copy-at .ensures) ∙ length-copied (now (a .out)) 0 (c .before .before .before .before .before .before .before .before .before .before .before .before .before .head-bytes .result) in let p = simp length-copied at (ap length (c .before .before .before .before .before .put-between .ensures)) in ((omega arith, omega (arith, l .bodies), omega (arith, l .bodies), omega arith), (omega (arith, bodies-room (a .form) (now (a .file)) (a .n) (a .t) (now (a .row)) (now (a .body)) l (now (a .out)) g (b .pre .1 .0) (8 + 8 * a .n + a .t .below) (omega arith) (omega (arith, l .bodies)), o, p), omega (arith, o, p, b .pre .1 .1)))
 
 same-length : tie.Need-same-length
 same-length c = search needs

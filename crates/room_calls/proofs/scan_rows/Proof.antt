@@ -10,10 +10,10 @@ use Rattle.room_calls.proofs.scan_rows.Statement.{statement}
 use Rattle.room_calls.proofs.scan_rows.Tie as tie
 
 abbrev Inv-loop : tie.InvT-loop
-Inv-loop file start n wanted t₀ at₀ low₀ left₀ t at low left = Scanning file start n wanted t at low left
+Inv-loop file start n wanted t₀ at₀ low₀ rest₀ t at low rest = Scanning file start n wanted t at low rest
 
 abbrev μ-loop : tie.MeasureT-loop
-μ-loop file start n wanted t₀ at₀ low₀ left₀ t at low left = left
+μ-loop file start n wanted t₀ at₀ low₀ rest₀ t at low rest = rest
 
 loop-holds : tie.Need-loop-holds Inv-loop μ-loop
 loop-holds c = let a = c .before .args in scanning-starts (now (a .file)) (a .start) (a .n) (a .wanted)
@@ -42,8 +42,8 @@ add-low c = search needs
 add-at : tie.Need-add-at Inv-loop μ-loop
 add-at c = omega (arith, c .before .before .before .before .before .before .loop .inv .place, c .before .before .before .before .before .loop-test .taken)
 
-sub-left : tie.Need-sub-left Inv-loop μ-loop
-sub-left c = search needs
+sub-rest : tie.Need-sub-rest Inv-loop μ-loop
+sub-rest c = search needs
 
 loop-less : tie.Need-loop-less Inv-loop μ-loop
 loop-less c = search needs
@@ -69,7 +69,7 @@ scan-rows-spec =
     cast-low
     add-low
     add-at
-    sub-left
+    sub-rest
     loop-less
     loop-again
     returns-2)
