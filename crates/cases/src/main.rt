@@ -1,8 +1,9 @@
-// Runs the cases that 01 marks Run, 000's full example, 002's, a write, 02's name with a dot, ONIE images, and 003's payload in both cuts: a line for each, "ok" or "WRONG".
+// Runs the cases that 01 marks Run, 000's full example, 002's, a write, 02's name with a dot, ONIE images, 003's payload in both cuts, and machine-room files: a line for each, "ok" or "WRONG".
 use blocks::Block;
 use blocks::Vended;
 use layout::Checked;
 use layout::Entry;
+use layout::Located;
 use layout::Lookup;
 use layout::Made;
 use layout::Part;
@@ -567,6 +568,136 @@ fn run_removals(image: &[u8], full: &[u8; 8192]) {
     );
 }
 
+// A file with one board more, into an output of 48 bytes: the new file, and the two bytes after it as they were.
+fn is_board_added(file: &[u8], board: u32, format: u32, body: &[u8], new: &[u8]) -> bool {
+    let mut out = [0xAAu8; 48];
+    let m = room_calls::add_board(&mut out, 1, 4, file, board, format, body);
+    is_made(m, new.len())
+        & parts::is_stored(&out, 0, new)
+        & parts::is_stored(&out, new.len(), b"\xAA\xAA")
+}
+
+fn is_board_replaced(file: &[u8], board: u32, format: u32, body: &[u8], new: &[u8]) -> bool {
+    let mut out = [0xAAu8; 48];
+    let m = room_calls::replace_board(&mut out, 1, 4, file, board, format, body);
+    is_made(m, new.len())
+        & parts::is_stored(&out, 0, new)
+        & parts::is_stored(&out, new.len(), b"\xAA\xAA")
+}
+
+fn is_board_removed(file: &[u8], board: u32, new: &[u8]) -> bool {
+    let mut out = [0xAAu8; 48];
+    let m = room_calls::remove_board(&mut out, 1, 4, file, board);
+    is_made(m, new.len())
+        & parts::is_stored(&out, 0, new)
+        & parts::is_stored(&out, new.len(), b"\xAA\xAA")
+}
+
+// Whether an addition into an output of 28 bytes is refused so, and leaves it as it was.
+fn is_board_not_added(
+    form: u32,
+    edition: u32,
+    file: &[u8],
+    board: u32,
+    body: &[u8],
+    number: u32,
+    place: usize,
+) -> bool {
+    let mut out = [0xAAu8; 28];
+    let m = room_calls::add_board(&mut out, form, edition, file, board, 3, body);
+    is_unmade(m, number, place) & parts::all_between(&out, 0xAA, 0xAA)
+}
+
+fn is_board_not_replaced(file: &[u8], board: u32, number: u32) -> bool {
+    let mut out = [0xAAu8; 28];
+    let m = room_calls::replace_board(&mut out, 1, 4, file, board, 2, b"\x00");
+    is_unmade(m, number, 0) & parts::all_between(&out, 0xAA, 0xAA)
+}
+
+// Whether the body of a board is this part of the file.
+fn is_board_at(file: &[u8], board: u32, place: usize, len: usize) -> bool {
+    let x = room_calls::fetch_board(1, 4, file, board);
+    match x {
+        Located::At(part) => is_part(part, place, len),
+        Located::Nowhere(_) => false,
+    }
+}
+
+fn is_board_nowhere(file: &[u8], board: u32, number: u32, place: usize) -> bool {
+    let x = room_calls::fetch_board(1, 4, file, board);
+    match x {
+        Located::At(_) => false,
+        Located::Nowhere(r) => is_refusal(r, number, place),
+    }
+}
+
+fn run_room_changes(none: &[u8], five: &[u8], nine: &[u8], both: &[u8]) {
+    say(b"board 5 added", is_board_added(none, 5, 2, b"\x00", five));
+    say(
+        b"board 9 added after it",
+        is_board_added(five, 9, 3, b"\x56\x02\x04\x6F", both),
+    );
+    say(
+        b"board 5 added before board 9",
+        is_board_added(nine, 5, 2, b"\x00", both),
+    );
+    say(
+        b"board 5 replaced by itself",
+        is_board_replaced(both, 5, 2, b"\x00", both),
+    );
+    say(b"board 9 removed", is_board_removed(both, 9, five));
+    say(b"board 5 removed", is_board_removed(both, 5, nine));
+    say(b"last board removed", is_board_removed(five, 5, none));
+    say(b"board 5 fetched", is_board_at(both, 5, 24, 1));
+    say(b"board 9 fetched", is_board_at(both, 9, 25, 4));
+}
+
+fn run_room_refusals(none: &[u8], five: &[u8], both: &[u8], wrong: &[u8], falling: &[u8]) {
+    let tiny = b"\x56\x02\x04\x6F";
+    say(
+        b"room file by edition 9, refused",
+        is_board_not_added(2, 9, five, 5, tiny, 1, 0),
+    );
+    say(
+        b"room file of form 2, refused",
+        is_board_not_added(2, 4, five, 5, tiny, 21, 0),
+    );
+    say(
+        b"room file cut short, refused",
+        is_board_nowhere(
+            b"\x52\x4D\x01\x00\x00\x01\x00\x00\x00\x00\x00\x05\x02\x00\x00\x01",
+            5,
+            21,
+            0,
+        ),
+    );
+    say(
+        b"room file with falling numbers, refused",
+        is_board_nowhere(falling, 5, 21, 0),
+    );
+    say(b"no such board fetched", is_board_nowhere(both, 7, 22, 0));
+    say(
+        b"no such board replaced",
+        is_board_not_replaced(both, 7, 22),
+    );
+    say(
+        b"board there already",
+        is_board_not_added(1, 4, both, 5, b"\x00", 23, 0),
+    );
+    say(
+        b"body of no format, refused",
+        is_board_nowhere(wrong, 5, 16, 16),
+    );
+    say(
+        b"new body with a wrong check, refused",
+        is_board_not_added(1, 4, none, 9, b"\x56\x02\x04\x6E", 10, 3),
+    );
+    say(
+        b"board added in 28 bytes, refused",
+        is_board_not_added(1, 4, five, 9, tiny, 12, 0),
+    );
+}
+
 fn run_writes(fields: &[u8]) {
     say(b"sku written", is_written(fields));
     say(b"value after the values, refused", is_not_written(fields));
@@ -624,5 +755,18 @@ fn main() {
     run_pool_changes(
         b"\x56\x02\x0E\x10\x00\x01\x06AB\xC3D\xC5F\x2F",
         b"\x11\x00\x00\x00\x00\x00\x00\x00\x00\x00\x00\x00\x00\x00\x00\x00\x01\x00\x00\x00",
+    );
+    run_room_changes(
+        b"\x52\x4D\x01\x00\x00\x00\x00\x00",
+        b"\x52\x4D\x01\x00\x00\x01\x00\x00\x00\x00\x00\x05\x02\x00\x00\x01\x00",
+        b"\x52\x4D\x01\x00\x00\x01\x00\x00\x00\x00\x00\x09\x03\x00\x00\x04\x56\x02\x04\x6F",
+        b"\x52\x4D\x01\x00\x00\x02\x00\x00\x00\x00\x00\x05\x02\x00\x00\x01\x00\x00\x00\x09\x03\x00\x00\x04\x00\x56\x02\x04\x6F",
+    );
+    run_room_refusals(
+        b"\x52\x4D\x01\x00\x00\x00\x00\x00",
+        b"\x52\x4D\x01\x00\x00\x01\x00\x00\x00\x00\x00\x05\x02\x00\x00\x01\x00",
+        b"\x52\x4D\x01\x00\x00\x02\x00\x00\x00\x00\x00\x05\x02\x00\x00\x01\x00\x00\x00\x09\x03\x00\x00\x04\x00\x56\x02\x04\x6F",
+        b"\x52\x4D\x01\x00\x00\x01\x00\x00\x00\x00\x00\x05\x09\x00\x00\x01\x00",
+        b"\x52\x4D\x01\x00\x00\x02\x00\x00\x00\x00\x00\x09\x02\x00\x00\x01\x00\x00\x00\x05\x02\x00\x00\x01\x00\x00",
     );
 }
