@@ -1,9 +1,10 @@
 /*
  * boardid.h, edition 3: reads, writes and edits board-identity EEPROM images.
  *
- * A program includes this header and links libboardid.a. The library is one binary for the headers
- * of every edition; which formats there are and which codes have a name is settled by the header
- * that a program is compiled with. What a name means is the same in every edition that has it.
+ * A program includes this header and links libboardid.a or libboardid.so. The library is one binary
+ * for the headers of every edition; which formats there are and which codes have a name is settled
+ * by the header that a program is compiled with. What a name means is the same in every edition
+ * that has it.
  *
  * An image is at most 65,536 bytes that the caller lends. The library opens no file, takes no
  * memory and keeps nothing between calls. It takes any bytes and any numbers: a call ends in an
@@ -37,6 +38,13 @@ extern "C" {
 
 /* The edition of this header. The calls below pass it; a caller never writes one. */
 #define BOARDID_EDITION 3
+
+/*
+ * The version of the package that this header is from, as a number for #if and as a text: version
+ * 4.3 is 403. Headers before 4.3 do not have it, so that there it is 0 in an #if.
+ */
+#define BOARDID_VERSION 403
+#define BOARDID_VERSION_TEXT "4.3"
 
 /* ---- Formats, codes and kinds ------------------------------------------------------------- */
 
@@ -1151,6 +1159,434 @@ static inline uint64_t boardid_vendor_write_payload(const uint8_t *serial, size_
     return boardid_vendor_write(BOARDID_FORMAT_ONIE, BOARDID_EDITION, serial, serial_length,
                                 boardid_vendor_offsets_word(offsets), pieces, pieces_length, out,
                                 out_length);
+}
+
+/* ---- Helpers ------------------------------------------------------------------------------ */
+
+/*
+ * What programs that make the calls above have in common. The functions of this section are C that
+ * is tested; they are outside the proofs. They take no memory and keep nothing, and what is said of
+ * the calls at the top of this file holds of them too: a pointer is good for the length that goes
+ * with it, and what a function writes overlaps nothing else that is lent to it.
+ */
+
+/* The name of a format, for people; null of a number that is no format of this edition. */
+static inline const char *boardid_format_name(uint32_t format)
+{
+    switch (format) {
+    case BOARDID_FORMAT_FBOSS:
+        return "FBOSS v5";
+    case BOARDID_FORMAT_VPD:
+        return "VPD 2.0";
+    case BOARDID_FORMAT_TINY:
+        return "Tiny EEPROM version 2";
+    case BOARDID_FORMAT_ONIE:
+        return "ONIE TlvInfo version 1";
+    default:
+        return NULL;
+    }
+}
+
+/*
+ * The name that a format's document gives to a kind; null of 0 and of every number that is no kind
+ * of this edition. What tells one VPD entry from another is its key, and not this name.
+ */
+static inline const char *boardid_kind_name(uint32_t kind)
+{
+    switch (kind) {
+    case BOARDID_KIND(BOARDID_FORMAT_FBOSS, BOARDID_FBOSS_PRODUCT_NAME):
+        return "Product Name";
+    case BOARDID_KIND(BOARDID_FORMAT_FBOSS, BOARDID_FBOSS_PRODUCT_PART_NUMBER):
+        return "Top Level 20- Product Part Number";
+    case BOARDID_KIND(BOARDID_FORMAT_FBOSS, BOARDID_FBOSS_SYSTEM_ASSEMBLY_PART_NUMBER):
+        return "System Assembly Part Number";
+    case BOARDID_KIND(BOARDID_FORMAT_FBOSS, BOARDID_FBOSS_META_PCBA_PART_NUMBER):
+        return "Meta PCBA Part Number";
+    case BOARDID_KIND(BOARDID_FORMAT_FBOSS, BOARDID_FBOSS_META_PCB_PART_NUMBER):
+        return "Meta PCB Part Number";
+    case BOARDID_KIND(BOARDID_FORMAT_FBOSS, BOARDID_FBOSS_ODM_PCBA_PART_NUMBER):
+        return "ODM/JDM PCBA Part Number";
+    case BOARDID_KIND(BOARDID_FORMAT_FBOSS, BOARDID_FBOSS_ODM_PCBA_SERIAL_NUMBER):
+        return "ODM/JDM PCBA Serial Number";
+    case BOARDID_KIND(BOARDID_FORMAT_FBOSS, BOARDID_FBOSS_PRODUCT_PRODUCTION_STATE):
+        return "Product Production State";
+    case BOARDID_KIND(BOARDID_FORMAT_FBOSS, BOARDID_FBOSS_PRODUCT_VERSION):
+        return "Product Version";
+    case BOARDID_KIND(BOARDID_FORMAT_FBOSS, BOARDID_FBOSS_PRODUCT_SUB_VERSION):
+        return "Product Sub Version";
+    case BOARDID_KIND(BOARDID_FORMAT_FBOSS, BOARDID_FBOSS_PRODUCT_SERIAL_NUMBER):
+        return "Product Serial Number";
+    case BOARDID_KIND(BOARDID_FORMAT_FBOSS, BOARDID_FBOSS_SYSTEM_MANUFACTURER):
+        return "System Manufacturer";
+    case BOARDID_KIND(BOARDID_FORMAT_FBOSS, BOARDID_FBOSS_SYSTEM_MANUFACTURING_DATE):
+        return "System Manufacturing Date";
+    case BOARDID_KIND(BOARDID_FORMAT_FBOSS, BOARDID_FBOSS_PCB_MANUFACTURER):
+        return "PCB Manufacturer";
+    case BOARDID_KIND(BOARDID_FORMAT_FBOSS, BOARDID_FBOSS_ASSEMBLED_AT):
+        return "Assembled at";
+    case BOARDID_KIND(BOARDID_FORMAT_FBOSS, BOARDID_FBOSS_EEPROM_LOCATION_ON_FABRIC):
+        return "EEPROM location on Fabric";
+    case BOARDID_KIND(BOARDID_FORMAT_FBOSS, BOARDID_FBOSS_X86_CPU_MAC_ADDRESSES):
+        return "X86 CPU MAC Addresses";
+    case BOARDID_KIND(BOARDID_FORMAT_FBOSS, BOARDID_FBOSS_BMC_MAC_ADDRESSES):
+        return "BMC MAC Addresses";
+    case BOARDID_KIND(BOARDID_FORMAT_FBOSS, BOARDID_FBOSS_SWITCH_ASIC_MAC_ADDRESSES):
+        return "Switch ASIC MAC Addresses";
+    case BOARDID_KIND(BOARDID_FORMAT_FBOSS, BOARDID_FBOSS_META_RESERVED_MAC_ADDRESSES):
+        return "Meta Reserved MAC Addresses";
+    case BOARDID_KIND(BOARDID_FORMAT_VPD, BOARDID_VPD_STRING):
+        return "string";
+    case BOARDID_KIND(BOARDID_FORMAT_VPD, BOARDID_VPD_INFO):
+        return "info header";
+    case BOARDID_KIND(BOARDID_FORMAT_TINY, BOARDID_TINY_ASCII_STRINGS):
+        return "ASCII encoded strings pool";
+    case BOARDID_KIND(BOARDID_FORMAT_TINY, BOARDID_TINY_SERIAL_NUMBER):
+        return "Serial number";
+    case BOARDID_KIND(BOARDID_FORMAT_TINY, BOARDID_TINY_FACTORY_TEST_FLAGS):
+        return "Factory test flags";
+    case BOARDID_KIND(BOARDID_FORMAT_TINY, BOARDID_TINY_BASE_MAC_ADDRESS):
+        return "Base MAC address";
+    case BOARDID_KIND(BOARDID_FORMAT_TINY, BOARDID_TINY_PRODUCT_IDENTITY):
+        return "Product identity";
+    case BOARDID_KIND(BOARDID_FORMAT_TINY, BOARDID_TINY_SYSTEM_PRODUCT_IDENTITY):
+        return "System product identity";
+    case BOARDID_KIND(BOARDID_FORMAT_TINY, BOARDID_TINY_PRODUCT_IDENTITY_BATCH):
+        return "Product identity w/ batch code";
+    case BOARDID_KIND(BOARDID_FORMAT_TINY, BOARDID_TINY_SYSTEM_PRODUCT_IDENTITY_BATCH):
+        return "System product identity w/ batch code";
+    case BOARDID_KIND(BOARDID_FORMAT_ONIE, BOARDID_ONIE_PRODUCT_NAME):
+        return "Product Name";
+    case BOARDID_KIND(BOARDID_FORMAT_ONIE, BOARDID_ONIE_PART_NUMBER):
+        return "Part Number";
+    case BOARDID_KIND(BOARDID_FORMAT_ONIE, BOARDID_ONIE_SERIAL_NUMBER):
+        return "Serial Number";
+    case BOARDID_KIND(BOARDID_FORMAT_ONIE, BOARDID_ONIE_BASE_MAC_ADDRESS):
+        return "MAC #1 Base";
+    case BOARDID_KIND(BOARDID_FORMAT_ONIE, BOARDID_ONIE_MANUFACTURE_DATE):
+        return "Manufacture Date";
+    case BOARDID_KIND(BOARDID_FORMAT_ONIE, BOARDID_ONIE_MAC_ADDRESS_COUNT):
+        return "Num MACs";
+    case BOARDID_KIND(BOARDID_FORMAT_ONIE, BOARDID_ONIE_MANUFACTURER):
+        return "Manufacturer";
+    case BOARDID_KIND(BOARDID_FORMAT_ONIE, BOARDID_ONIE_COUNTRY_CODE):
+        return "Country Code";
+    case BOARDID_KIND(BOARDID_FORMAT_ONIE, BOARDID_ONIE_VENDOR):
+        return "Vendor";
+    case BOARDID_KIND(BOARDID_FORMAT_ONIE, BOARDID_ONIE_VENDOR_EXTENSION):
+        return "Vendor Extension";
+    default:
+        return NULL;
+    }
+}
+
+/*
+ * The number of the first entry from entry number from on that has a code; count where there is
+ * none. It goes through the first count records, as boardid_list_entries has filled them.
+ */
+static inline size_t boardid_find_code(const uint8_t *records, size_t count, uint32_t code,
+                                       size_t from)
+{
+    size_t k;
+
+    for (k = from; k < count; k++) {
+        if (boardid_record_at(records, k).code == code) {
+            return k;
+        }
+    }
+    return count;
+}
+
+/*
+ * The number of the first entry from entry number from on that has a key, byte for byte, whatever
+ * its code; count where there is none. It goes through the first count records, as
+ * boardid_list_entries has filled them from the image, and reads the image where they say. VPD
+ * alone has keys: in every other format all keys are empty.
+ */
+static inline size_t boardid_find_key(const uint8_t *image, const uint8_t *records, size_t count,
+                                      const void *key, size_t key_length, size_t from)
+{
+    const uint8_t *wanted = (const uint8_t *)key;
+    size_t k, i;
+
+    for (k = from; k < count; k++) {
+        struct boardid_record record = boardid_record_at(records, k);
+
+        if (record.key_length == key_length) {
+            for (i = 0; i < key_length && image[record.key_place + i] == wanted[i]; i++) {
+            }
+            if (i == key_length) {
+                return k;
+            }
+        }
+    }
+    return count;
+}
+
+/*
+ * Address k of an address block, counted from 0, in six bytes, high byte first: its first address
+ * and k together. After FF FF FF FF FF FF comes 00 00 00 00 00 00. How many addresses the block has
+ * is not asked. Of an entry with another reading the bytes are 0s, whatever k is.
+ */
+static inline void boardid_record_address_bytes(const struct boardid_record *record, uint32_t k,
+                                                uint8_t bytes[6])
+{
+    uint64_t address = boardid_record_address_base(record);
+    size_t i;
+
+    if (record->reading == BOARDID_READING_ADDRESS_BLOCK) {
+        address += k;
+    }
+    for (i = 6; i > 0; i--) {
+        bytes[i - 1] = (uint8_t)address;
+        address >>= 8;
+    }
+}
+
+/*
+ * Puts a string of a Tiny image's pool into text, as snprintf would: as many of its characters as
+ * fit, and a zero after them. The top bit of the last character is taken off, so each is 00h to
+ * 7Fh; they may be control characters, and a zero may stand among them too.
+ *
+ * Gives the length of the whole string, without the zero at the end, so that all of it is there
+ * where that is less than text_size. No string has the length 0: this is given where there is no
+ * such string, no pool, or the image is refused, and text is then the empty text; boardid_string_at
+ * says for what. Bytes of text after the zero stay as they were. With a text_size of 0 nothing is
+ * written.
+ */
+static inline size_t boardid_string_text(const uint8_t *image, size_t image_length, uint64_t number,
+                                         char *text, size_t text_size)
+{
+    struct boardid_part part = boardid_answer_part(
+        boardid_string_at(BOARDID_FORMAT_TINY, image, image_length, number));
+    size_t i;
+
+    for (i = 0; i < part.length && i + 1 < text_size; i++) {
+        text[i] = (char)(image[part.place + i] & 0x7F);
+    }
+    if (text_size != 0) {
+        text[i] = '\0';
+    }
+    return part.length;
+}
+
+/* The most bytes of a Tiny pool. */
+enum {
+    BOARDID_TINY_POOL_MAX = 255
+};
+
+/*
+ * How many strings the bytes of a pool have; so also the number of the string that is appended to
+ * them next.
+ */
+static inline uint32_t boardid_pool_strings(const uint8_t *pool, size_t pool_length)
+{
+    uint32_t strings = 0;
+    size_t i;
+
+    for (i = 0; i < pool_length; i++) {
+        strings += (uint32_t)(pool[i] >> 7);
+    }
+    return strings;
+}
+
+/*
+ * Appends a text as one string to the bytes of a pool, which may be none: the characters, the last
+ * one with its top bit on. The pool is pool_length bytes at the front of pool_size.
+ *
+ * Gives the new length of the pool; or 0, and nothing is written, where the text is empty or has a
+ * byte above 7Fh, where the pool ends in bytes of no string, which the new string would take in,
+ * where pool_size bytes are too few, and where the pool would have more than 255 bytes.
+ */
+static inline size_t boardid_pool_append(uint8_t *pool, size_t pool_length, size_t pool_size,
+                                         const void *text, size_t text_length)
+{
+    const uint8_t *characters = (const uint8_t *)text;
+    size_t room = BOARDID_TINY_POOL_MAX;
+    size_t i;
+
+    if (pool_size < room) {
+        room = pool_size;
+    }
+    if (text_length == 0 || pool_length > room || text_length > room - pool_length ||
+        (pool_length != 0 && pool[pool_length - 1] <= 0x7F)) {
+        return 0;
+    }
+    for (i = 0; i < text_length; i++) {
+        if (characters[i] > 0x7F) {
+            return 0;
+        }
+    }
+    for (i = 0; i < text_length; i++) {
+        pool[pool_length + i] = characters[i];
+    }
+    pool[pool_length + text_length - 1] |= 0x80;
+    return pool_length + text_length;
+}
+
+/* The bytes that a length has in VPD, in its shortest form: one for each seven bits. */
+static inline uint32_t boardid_vpd_length_bytes(uint64_t length)
+{
+    uint32_t bytes = 1;
+
+    while (length > 0x7F) {
+        length >>= 7;
+        bytes++;
+    }
+    return bytes;
+}
+
+/* The place of an image's first entry, or of its end where it has none; 0 of any other format. */
+static inline uint32_t boardid_first_place(uint32_t format)
+{
+    switch (format) {
+    case BOARDID_FORMAT_FBOSS:
+        return 4;
+    case BOARDID_FORMAT_TINY:
+        return 3;
+    case BOARDID_FORMAT_ONIE:
+        return 11;
+    default:
+        return 0;
+    }
+}
+
+/* The bytes of an image's end; 1 of any other format. */
+static inline uint32_t boardid_end_length(uint32_t format)
+{
+    switch (format) {
+    case BOARDID_FORMAT_FBOSS:
+        return 4;
+    case BOARDID_FORMAT_ONIE:
+        return 6;
+    default:
+        return 1;
+    }
+}
+
+/* The length of the frame that a field gets in a write or an addition that is not refused. */
+static inline uint64_t boardid_field_frame_length(uint32_t format, struct boardid_field field)
+{
+    uint64_t length = field.value_length;
+
+    if (format == BOARDID_FORMAT_VPD) {
+        return length + 1 + boardid_vpd_length_bytes(field.key_length) + field.key_length +
+               boardid_vpd_length_bytes(field.value_length);
+    }
+    if (format == BOARDID_FORMAT_TINY && field.code != BOARDID_TINY_ASCII_STRINGS) {
+        return length + 1;
+    }
+    return length + 2;
+}
+
+/* The answer with the length of a new image, or 12 where no image of the format is that long. */
+static inline uint64_t boardid_length_answer(uint32_t format, uint64_t length)
+{
+    uint64_t most = BOARDID_IMAGE_MAX;
+
+    if (format == BOARDID_FORMAT_TINY) {
+        most = 255;
+    }
+    if (format == BOARDID_FORMAT_ONIE) {
+        most = 2059;
+    }
+    return length <= most ? length << 32 : (uint64_t)BOARDID_REFUSED_NO_ROOM << 59;
+}
+
+/*
+ * The length of an image, its end included. What the lent bytes have after it is not looked at.
+ *
+ * Gives the length.
+ * Refused: as boardid_check_image.
+ */
+static inline uint64_t boardid_image_length(uint32_t format, const uint8_t *image,
+                                            size_t image_length)
+{
+    uint64_t answer = boardid_check_image(format, image, image_length);
+    uint32_t entries = boardid_answer_count(answer);
+    uint64_t end = boardid_first_place(format);
+    uint8_t record[BOARDID_RECORD_SIZE];
+
+    if (entries != 0) {
+        answer = boardid_entry_at(format, image, image_length, entries - 1, record, sizeof record);
+        end = boardid_record_at(record, 0).value_place;
+        end += boardid_record_at(record, 0).value_length;
+    }
+    return boardid_answer_number(answer) != 0 ? answer : (end + boardid_end_length(format)) << 32;
+}
+
+/*
+ * The length that an image to write has: answers as boardid_write_image with an output of
+ * BOARDID_IMAGE_MAX bytes, and needs no output. So it gives the length, or is refused for what the
+ * write is refused for, with 12 where no output is long enough.
+ */
+static inline uint64_t boardid_write_length(uint32_t format, const uint8_t *fields,
+                                            size_t fields_length, const uint8_t *values,
+                                            size_t values_length)
+{
+    uint64_t answer = boardid_write_image(format, fields, fields_length, values, values_length,
+                                          NULL, 0);
+    uint64_t length = boardid_first_place(format) + boardid_end_length(format);
+    size_t k;
+
+    /* 12 comes last: where that is given, nothing else is wrong. */
+    if (boardid_answer_number(answer) != BOARDID_REFUSED_NO_ROOM) {
+        return answer;
+    }
+    for (k = 0; k < fields_length / BOARDID_FIELD_SIZE && length <= BOARDID_IMAGE_MAX; k++) {
+        length += boardid_field_frame_length(format, boardid_field_at(fields, k));
+    }
+    return boardid_length_answer(format, length);
+}
+
+/*
+ * The length that an edited image has: answers as boardid_edit_entry with an output of
+ * BOARDID_IMAGE_MAX bytes, and needs no output.
+ */
+static inline uint64_t boardid_edit_length(uint32_t format, const uint8_t *image,
+                                           size_t image_length, uint64_t n, const uint8_t *value,
+                                           size_t value_length)
+{
+    uint64_t answer = boardid_edit_entry(format, image, image_length, n, value, value_length, NULL,
+                                         0);
+    uint8_t bytes[BOARDID_RECORD_SIZE];
+    struct boardid_record record;
+    uint64_t length;
+
+    if (boardid_answer_number(answer) != BOARDID_REFUSED_NO_ROOM ||
+        value_length > BOARDID_IMAGE_MAX) {
+        return answer;
+    }
+    length = boardid_answer_count(boardid_image_length(format, image, image_length));
+    boardid_entry_at(format, image, image_length, n, bytes, sizeof bytes);
+    record = boardid_record_at(bytes, 0);
+    length = length - record.value_length + value_length;
+    if (format == BOARDID_FORMAT_VPD) {
+        /* The value's length is stored between key and value, and is written in shortest form. */
+        length -= record.value_place - (record.key_place + record.key_length);
+        length += boardid_vpd_length_bytes(value_length);
+    }
+    return boardid_length_answer(format, length);
+}
+
+/*
+ * The length that an image with a field added has: answers as boardid_add_field with an output of
+ * BOARDID_IMAGE_MAX bytes, and needs no output.
+ */
+static inline uint64_t boardid_add_length(uint32_t format, const uint8_t *image,
+                                          size_t image_length, const uint8_t *field,
+                                          size_t field_length, const uint8_t *values,
+                                          size_t values_length)
+{
+    uint64_t answer = boardid_add_field(format, image, image_length, field, field_length, values,
+                                        values_length, NULL, 0);
+    uint64_t length;
+
+    if (boardid_answer_number(answer) != BOARDID_REFUSED_NO_ROOM) {
+        return answer;
+    }
+    length = boardid_answer_count(boardid_image_length(format, image, image_length));
+    length += boardid_field_frame_length(format, boardid_field_at(field, 0));
+    return boardid_length_answer(format, length);
 }
 
 #ifdef __cplusplus
