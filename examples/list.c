@@ -4,7 +4,7 @@
  *     list fboss|vpd|tiny|onie FILE
  *
  * Compiled with the header of edition 1 or 2, it has no onie. To compile this program takes a header
- * of version 3.2 or later.
+ * of version 4.3 or later.
  *
  * One line gives the file, its format, the edition of the header that this program was compiled
  * with, and how many entries there are. Then each entry has a line: its number, its name and its
@@ -20,104 +20,6 @@
  * not be read or the list not be written.
  */
 #include "image_file.h"
-
-/* The name that a format's document gives to a code. In VPD it is put before the key. */
-struct name {
-    uint32_t kind;
-    const char *text;
-};
-
-static const struct name names[] = {
-    {BOARDID_KIND(BOARDID_FORMAT_FBOSS, BOARDID_FBOSS_PRODUCT_NAME), "Product Name"},
-    {BOARDID_KIND(BOARDID_FORMAT_FBOSS, BOARDID_FBOSS_PRODUCT_PART_NUMBER),
-     "Top Level 20- Product Part Number"},
-    {BOARDID_KIND(BOARDID_FORMAT_FBOSS, BOARDID_FBOSS_SYSTEM_ASSEMBLY_PART_NUMBER),
-     "System Assembly Part Number"},
-    {BOARDID_KIND(BOARDID_FORMAT_FBOSS, BOARDID_FBOSS_META_PCBA_PART_NUMBER),
-     "Meta PCBA Part Number"},
-    {BOARDID_KIND(BOARDID_FORMAT_FBOSS, BOARDID_FBOSS_META_PCB_PART_NUMBER), "Meta PCB Part Number"},
-    {BOARDID_KIND(BOARDID_FORMAT_FBOSS, BOARDID_FBOSS_ODM_PCBA_PART_NUMBER),
-     "ODM/JDM PCBA Part Number"},
-    {BOARDID_KIND(BOARDID_FORMAT_FBOSS, BOARDID_FBOSS_ODM_PCBA_SERIAL_NUMBER),
-     "ODM/JDM PCBA Serial Number"},
-    {BOARDID_KIND(BOARDID_FORMAT_FBOSS, BOARDID_FBOSS_PRODUCT_PRODUCTION_STATE),
-     "Product Production State"},
-    {BOARDID_KIND(BOARDID_FORMAT_FBOSS, BOARDID_FBOSS_PRODUCT_VERSION), "Product Version"},
-    {BOARDID_KIND(BOARDID_FORMAT_FBOSS, BOARDID_FBOSS_PRODUCT_SUB_VERSION), "Product Sub Version"},
-    {BOARDID_KIND(BOARDID_FORMAT_FBOSS, BOARDID_FBOSS_PRODUCT_SERIAL_NUMBER),
-     "Product Serial Number"},
-    {BOARDID_KIND(BOARDID_FORMAT_FBOSS, BOARDID_FBOSS_SYSTEM_MANUFACTURER), "System Manufacturer"},
-    {BOARDID_KIND(BOARDID_FORMAT_FBOSS, BOARDID_FBOSS_SYSTEM_MANUFACTURING_DATE),
-     "System Manufacturing Date"},
-    {BOARDID_KIND(BOARDID_FORMAT_FBOSS, BOARDID_FBOSS_PCB_MANUFACTURER), "PCB Manufacturer"},
-    {BOARDID_KIND(BOARDID_FORMAT_FBOSS, BOARDID_FBOSS_ASSEMBLED_AT), "Assembled at"},
-    {BOARDID_KIND(BOARDID_FORMAT_FBOSS, BOARDID_FBOSS_EEPROM_LOCATION_ON_FABRIC),
-     "EEPROM location on Fabric"},
-    {BOARDID_KIND(BOARDID_FORMAT_VPD, BOARDID_VPD_STRING), ""},
-    {BOARDID_KIND(BOARDID_FORMAT_TINY, BOARDID_TINY_ASCII_STRINGS), "ASCII encoded strings pool"},
-    {BOARDID_KIND(BOARDID_FORMAT_TINY, BOARDID_TINY_SERIAL_NUMBER), "Serial number"},
-    {BOARDID_KIND(BOARDID_FORMAT_TINY, BOARDID_TINY_FACTORY_TEST_FLAGS), "Factory test flags"},
-    {BOARDID_KIND(BOARDID_FORMAT_TINY, BOARDID_TINY_BASE_MAC_ADDRESS), "Base MAC address"},
-    {BOARDID_KIND(BOARDID_FORMAT_TINY, BOARDID_TINY_PRODUCT_IDENTITY), "Product identity"},
-    {BOARDID_KIND(BOARDID_FORMAT_TINY, BOARDID_TINY_SYSTEM_PRODUCT_IDENTITY),
-     "System product identity"},
-#if BOARDID_EDITION >= 2
-    {BOARDID_KIND(BOARDID_FORMAT_FBOSS, BOARDID_FBOSS_X86_CPU_MAC_ADDRESSES),
-     "X86 CPU MAC Addresses"},
-    {BOARDID_KIND(BOARDID_FORMAT_FBOSS, BOARDID_FBOSS_BMC_MAC_ADDRESSES), "BMC MAC Addresses"},
-    {BOARDID_KIND(BOARDID_FORMAT_FBOSS, BOARDID_FBOSS_SWITCH_ASIC_MAC_ADDRESSES),
-     "Switch ASIC MAC Addresses"},
-    {BOARDID_KIND(BOARDID_FORMAT_FBOSS, BOARDID_FBOSS_META_RESERVED_MAC_ADDRESSES),
-     "Meta Reserved MAC Addresses"},
-    {BOARDID_KIND(BOARDID_FORMAT_VPD, BOARDID_VPD_INFO), "info header "},
-    {BOARDID_KIND(BOARDID_FORMAT_TINY, BOARDID_TINY_PRODUCT_IDENTITY_BATCH),
-     "Product identity w/ batch code"},
-    {BOARDID_KIND(BOARDID_FORMAT_TINY, BOARDID_TINY_SYSTEM_PRODUCT_IDENTITY_BATCH),
-     "System product identity w/ batch code"},
-#endif
-#if BOARDID_EDITION >= 3
-    {BOARDID_KIND(BOARDID_FORMAT_ONIE, BOARDID_ONIE_PRODUCT_NAME), "Product Name"},
-    {BOARDID_KIND(BOARDID_FORMAT_ONIE, BOARDID_ONIE_PART_NUMBER), "Part Number"},
-    {BOARDID_KIND(BOARDID_FORMAT_ONIE, BOARDID_ONIE_SERIAL_NUMBER), "Serial Number"},
-    {BOARDID_KIND(BOARDID_FORMAT_ONIE, BOARDID_ONIE_BASE_MAC_ADDRESS), "MAC #1 Base"},
-    {BOARDID_KIND(BOARDID_FORMAT_ONIE, BOARDID_ONIE_MANUFACTURE_DATE), "Manufacture Date"},
-    {BOARDID_KIND(BOARDID_FORMAT_ONIE, BOARDID_ONIE_MAC_ADDRESS_COUNT), "Num MACs"},
-    {BOARDID_KIND(BOARDID_FORMAT_ONIE, BOARDID_ONIE_MANUFACTURER), "Manufacturer"},
-    {BOARDID_KIND(BOARDID_FORMAT_ONIE, BOARDID_ONIE_COUNTRY_CODE), "Country Code"},
-    {BOARDID_KIND(BOARDID_FORMAT_ONIE, BOARDID_ONIE_VENDOR), "Vendor"},
-    {BOARDID_KIND(BOARDID_FORMAT_ONIE, BOARDID_ONIE_VENDOR_EXTENSION), "Vendor Extension"},
-#endif
-};
-
-/* The name of a format. */
-static const char *format_name(uint32_t format)
-{
-    switch (format) {
-    case BOARDID_FORMAT_FBOSS:
-        return "FBOSS v5";
-    case BOARDID_FORMAT_VPD:
-        return "VPD 2.0";
-#if BOARDID_EDITION >= 3
-    case BOARDID_FORMAT_ONIE:
-        return "ONIE TlvInfo version 1";
-#endif
-    default:
-        return "Tiny EEPROM version 2";
-    }
-}
-
-/* The name of a kind; null of kind 0, which has none. */
-static const char *kind_name(uint32_t kind)
-{
-    size_t i;
-
-    for (i = 0; i < sizeof names / sizeof names[0]; i++) {
-        if (names[i].kind == kind) {
-            return names[i].text;
-        }
-    }
-    return NULL;
-}
 
 /* Whether bytes are printable ASCII. */
 static int is_text(const uint8_t *bytes, size_t length)
@@ -148,40 +50,32 @@ static void print_hex(const uint8_t *bytes, size_t length)
 /* Prints the string that a string number counts; says so where the pool has none. */
 static void print_string(const struct image_file *image, uint32_t number)
 {
-    uint64_t answer = boardid_string_at(BOARDID_FORMAT_TINY, image->bytes, image->length, number);
-    struct boardid_part part = boardid_answer_part(answer);
-    const uint8_t *string = image->bytes + part.place;
-    uint32_t i;
+    char text[BOARDID_TINY_POOL_MAX + 1];
+    size_t length = boardid_string_text(image->bytes, image->length, number, text, sizeof text);
 
-    if (boardid_answer_number(answer) != 0) {
+    if (length == 0) {
         printf("string %lu, which the pool does not have", (unsigned long)number);
-        return;
+    } else {
+        print_text((const uint8_t *)text, length);
     }
-    printf("\"");
-    for (i = 0; i < part.length; i++) {
-        print_character(string[i] & 0x7Fu);
-    }
-    printf("\"");
 }
 
 /* Prints every string of the pool, and how many bytes after the last one make no string. */
 static void print_pool(const struct image_file *image, const struct boardid_record *record)
 {
-    uint32_t rest = record->value_length;
-    uint32_t number = 0;
-    uint64_t answer = boardid_string_at(BOARDID_FORMAT_TINY, image->bytes, image->length, number);
+    const uint8_t *pool = image->bytes + record->value_place;
+    uint32_t strings = boardid_pool_strings(pool, record->value_length);
+    uint32_t rest = 0, number;
 
-    if (boardid_answer_number(answer) != 0) {
+    if (strings == 0) {
         printf("no strings");
     }
-    while (boardid_answer_number(answer) == 0) {
-        if (number != 0) {
-            printf(", ");
-        }
+    for (number = 0; number < strings; number++) {
+        printf("%s", number != 0 ? ", " : "");
         print_string(image, number);
-        rest -= boardid_answer_part(answer).length;
-        number++;
-        answer = boardid_string_at(BOARDID_FORMAT_TINY, image->bytes, image->length, number);
+    }
+    while (rest < record->value_length && pool[record->value_length - rest - 1] <= 0x7F) {
+        rest++;
     }
     if (rest != 0) {
         printf("; bytes of no string: %lu", (unsigned long)rest);
@@ -191,12 +85,13 @@ static void print_pool(const struct image_file *image, const struct boardid_reco
 /* Prints an address block: the first address and how many there are. */
 static void print_addresses(const struct boardid_record *record)
 {
-    uint64_t base = boardid_record_address_base(record);
     uint32_t count = boardid_record_address_count(record);
-    int shift;
+    uint8_t bytes[6];
+    int i;
 
-    for (shift = 40; shift >= 0; shift -= 8) {
-        printf(shift == 40 ? "%02x" : ":%02x", (unsigned)(base >> shift & 0xFF));
+    boardid_record_address_bytes(record, 0, bytes);
+    for (i = 0; i < 6; i++) {
+        printf(i == 0 ? "%02x" : ":%02x", bytes[i]);
     }
     printf(count == 1 ? ", %lu address" : ", %lu addresses", (unsigned long)count);
 }
@@ -316,26 +211,31 @@ static void print_value(const struct image_file *image, const struct boardid_rec
     }
 }
 
-/* Prints what an entry is called: the name of its code, or its code; in VPD also its key. */
+/*
+ * Prints what an entry is called: the name of its code, or its code. In VPD its key comes after
+ * that, and of a 01h stands alone.
+ */
 static void print_name(uint32_t format, const struct image_file *image,
                        const struct boardid_record *record)
 {
-    const char *name = kind_name(record->kind);
+    const char *name = boardid_kind_name(record->kind);
 
+    if (record->kind == BOARDID_KIND(BOARDID_FORMAT_VPD, BOARDID_VPD_STRING)) {
+        name = "";
+    }
     if (name != NULL) {
         printf("%s", name);
     } else if (format == BOARDID_FORMAT_FBOSS) {
         printf("code %lu", (unsigned long)record->code);
-    } else if (format == BOARDID_FORMAT_TINY) {
-        printf("tag %02lXh", (unsigned long)record->code);
-#if BOARDID_EDITION >= 3
-    } else if (format == BOARDID_FORMAT_ONIE) {
-        printf("code %02lXh", (unsigned long)record->code);
-#endif
     } else {
-        printf("type %02lXh ", (unsigned long)record->code);
+        const char *word = format == BOARDID_FORMAT_VPD    ? "type"
+                           : format == BOARDID_FORMAT_TINY ? "tag"
+                                                           : "code";
+
+        printf("%s %02lXh", word, (unsigned long)record->code);
     }
     if (format == BOARDID_FORMAT_VPD) {
+        printf("%s", name == NULL || name[0] != '\0' ? " " : "");
         print_text(image->bytes + record->key_place, record->key_length);
     }
 }
@@ -365,7 +265,7 @@ static int list(uint32_t format, const char *path, const struct image_file *imag
         return REFUSED;
     }
     printf(count == 1 ? "%s: %s, edition %d, %lu entry\n" : "%s: %s, edition %d, %lu entries\n",
-           path, format_name(format), BOARDID_EDITION, (unsigned long)count);
+           path, boardid_format_name(format), BOARDID_EDITION, (unsigned long)count);
     for (n = 0; n < count; n++) {
         struct boardid_record record = boardid_record_at(records, n);
 

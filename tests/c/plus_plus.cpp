@@ -66,6 +66,36 @@ int main()
     good = good && boardid_answer_count(answer) == 6;
     good = good && std::memcmp(removed, left, sizeof removed) == 0;
 
+    // The helpers.
+    uint8_t two[2 * BOARDID_RECORD_SIZE], pool[8], tiny[16], address[6];
+    char string[8];
+    good = good && boardid_answer_count(boardid_list_entries(BOARDID_FORMAT_VPD, added,
+                                                             sizeof added, two, sizeof two)) == 2;
+    good = good && boardid_find_code(two, 2, BOARDID_VPD_STRING, 1) == 1;
+    good = good && boardid_find_key(added, two, 2, "K", 1, 0) == 1;
+    good = good && boardid_find_key(added, two, 2, "U", 1, 0) == 2;
+    good = good && std::strcmp(boardid_kind_name(entry.kind), "string") == 0;
+    good = good && std::strcmp(boardid_format_name(BOARDID_FORMAT_VPD), "VPD 2.0") == 0;
+    boardid_record_address_bytes(&entry, 1, address);
+    good = good && address[5] == 0;
+    good = good && boardid_pool_append(pool, 0, sizeof pool, "SN-7", 4) == 4;
+    good = good && boardid_pool_strings(pool, 4) == 1;
+    const boardid_field strings = {BOARDID_TINY_ASCII_STRINGS, 0, 0, 0, 4};
+    boardid_field_set(field, 0, strings);
+    answer = boardid_write_image(BOARDID_FORMAT_TINY, field, sizeof field, pool, 4, tiny,
+                                 sizeof tiny);
+    good = good && boardid_write_length(BOARDID_FORMAT_TINY, field, sizeof field, pool, 4) == answer;
+    good = good && boardid_image_length(BOARDID_FORMAT_TINY, tiny, sizeof tiny) == answer;
+    good = good && boardid_string_text(tiny, sizeof tiny, 0, string, sizeof string) == 4;
+    good = good && std::strcmp(string, "SN-7") == 0;
+    good = good && boardid_answer_count(boardid_edit_length(BOARDID_FORMAT_VPD, image, sizeof image,
+                                                            0, text, sizeof text)) == 8;
+    boardid_field_set(field, 0, more);
+    good = good && boardid_answer_count(boardid_add_length(BOARDID_FORMAT_VPD, edited,
+                                                           sizeof edited, field, sizeof field,
+                                                           values, sizeof values)) == 13;
+    good = good && BOARDID_VERSION >= 403 && std::strlen(BOARDID_VERSION_TEXT) >= 3;
+
     uint8_t room[8], filled[24], changed[30], emptied[8];
     good = good && boardid_room_write_empty(BOARDID_ROOM_FORM_1, room, sizeof room) == 8;
     good = good && boardid_room_contents_place(BOARDID_ROOM_FORM_1) == 8;

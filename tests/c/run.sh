@@ -14,6 +14,7 @@ trap 'rm -rf "$room"' EXIT
 passed=0 failed=0
 editions=(1 2 3 4)
 newest=4
+version=$(sed -n 's/^@version //p' include/boardid.h.in)
 warnings=(-Wall -Wextra -Wpedantic -Wconversion -Wshadow -Werror)
 
 # try NAME COMMAND..: one test, which passes where the command's exit status is 0.
@@ -108,6 +109,46 @@ examples() {
     diff tests/c/examples.out "$folder/examples.out"
 }
 
+# The shared library: what it lets out, what it needs, and how it is linked; then old_header of each edition and the examples, linked with it.
+shared() {
+    local so=$1/shared/libboardid.so.1.$version lib more folder=$1/shared/programs edition
+    make_here "CC=$cc" "OUT=$1/shared" "MAN=$1/shared/man" "LIB=$2" shared || return 1
+    lets_out "$so" || return 1
+    lib=$1/shared/libboardid.so more=("-Wl,-rpath,$1/shared")
+    mkdir -p "$folder"
+    for edition in "${editions[@]}"; do
+        program "$folder/old_header-$edition" "$edition" tests/c/old_header.c || return 1
+    done
+    readelf -d "$folder/old_header-1" | grep -q 'NEEDED.*\[libboardid\.so\.1\]' || { echo 'old_header is not linked with the shared library'; return 1; }
+    old_and_new "$folder" && examples "$folder"
+}
+
+# lets_out FILE: a shared library lets out the calls that the newest header declares, under BOARDID_1, and nothing else; its soname; it needs the C library alone; and it is
+# linked so that its own tables are read-only when a program begins.
+lets_out() {
+    local about=$room/about
+    readelf -W -d "$1" >"$about" && readelf -W -l "$1" >>"$about" || return 1
+    diff <(grep -o '^uint64_t boardid_[a-z_]*' "include/edition-$newest/boardid.h" | sed 's/^uint64_t \(.*\)/T \1@@BOARDID_1/' | LC_ALL=C sort) \
+        <(nm -D --defined-only "$1" | sed 's/^[0-9a-f]* //' | grep -v '^A BOARDID_1$' | LC_ALL=C sort) || return 1
+    grep -q 'SONAME.*\[libboardid\.so\.1\]' "$about" || { echo 'another soname'; return 1; }
+    grep -q 'FLAGS.*BIND_NOW' "$about" || { echo 'not linked with now'; return 1; }
+    grep -q 'GNU_RELRO' "$about" || { echo 'not linked with relro'; return 1; }
+    ! grep 'NEEDED' "$about" | grep -v '\[libc\.so\.6\]' || { echo 'needs another library'; return 1; }
+    ! grep 'TEXTREL' "$about" || { echo 'code that is changed when it is loaded'; return 1; }
+    ! grep 'GNU_STACK.*E ' "$about" || { echo 'a stack that can be run'; return 1; }
+}
+
+# A name that the archive has and library/boardid.map has not stays inside; one that it has and the archive has not fails the link.
+map_decides() {
+    local folder=$room/map
+    mkdir -p "$folder/library" || return 1
+    printf 'int boardid_secret(void);\nint boardid_secret(void) { return 1; }\n' >"$folder/secret.c"
+    "$cc" -c -o "$folder/secret.o" "$folder/secret.c" && cp "$lib" "$folder/more.a" && ar r "$folder/more.a" "$folder/secret.o" || return 1
+    make_here "CC=$cc" "OUT=$folder/c" "LIB=$folder/more.a" shared && lets_out "$folder/c/libboardid.so" || return 1
+    cp -r Makefile include "$folder" && sed 's/boardid_write;/&\n    boardid_none;/' library/boardid.map >"$folder/library/boardid.map" || return 1
+    ! make_here -C "$folder" "CC=$cc" OUT=none "LIB=$lib" shared
+}
+
 # A C++ program with an edition's header.
 plus_plus() {
     local folder=$1 edition=$2 standard=$3
@@ -140,7 +181,7 @@ compiler() {
         folder=$room/$cc-$flavour
         mkdir -p "$folder"
         for edition in "${editions[@]}"; do
-            names=(layouts calls changes frames dates before_dates room)
+            names=(layouts calls changes frames dates before_dates room helpers)
             [ "$edition" -lt 3 ] || names+=(vendor)
             for name in "${names[@]}" old_header; do
                 try "$cc, $flavour: $name compiled with edition $edition" program "$folder/$name-$edition" "$edition" "tests/c/$name.c"
@@ -152,6 +193,7 @@ compiler() {
         try "$cc, $flavour: old and new header on the same files" old_and_new "$folder"
         try "$cc, $flavour: all headers in one program" all_headers "$folder"
         try "$cc, $flavour: the examples" examples "$folder"
+        [ "$flavour" = sanitized ] || try "$cc: the shared library" shared "$folder" "$lib"
         if command -v "$cxx" >"$room/output"; then
             for edition in "${editions[@]}"; do
                 try "$cxx, $flavour: C++17 with edition $edition" plus_plus "$folder" "$edition" c++17
@@ -194,7 +236,10 @@ typedef char itself[BOARDID_EDITION == $edition ? 1 : -1];"
         BOARDID_ROOM_BOARDS_MAX BOARDID_ROOM_HEAD_SIZE BOARDID_ROOM_ROW_SIZE 'sizeof(struct boardid_room_row)' \
         boardid_room_contents_place boardid_room_write_empty boardid_room_rows boardid_room_row_at \
         boardid_room_add boardid_room_replace boardid_room_remove boardid_room_fetch \
-        boardid_room_add_board boardid_room_replace_board boardid_room_remove_board boardid_room_fetch_board
+        boardid_room_add_board boardid_room_replace_board boardid_room_remove_board boardid_room_fetch_board \
+        BOARDID_VERSION BOARDID_VERSION_TEXT BOARDID_TINY_POOL_MAX boardid_format_name boardid_kind_name boardid_find_code boardid_find_key \
+        boardid_record_address_bytes boardid_string_text boardid_pool_strings boardid_pool_append boardid_image_length boardid_write_length \
+        boardid_edit_length boardid_add_length
     brought_by 2 BOARDID_FBOSS_X86_CPU_MAC_ADDRESSES BOARDID_FBOSS_BMC_MAC_ADDRESSES BOARDID_FBOSS_SWITCH_ASIC_MAC_ADDRESSES \
         BOARDID_FBOSS_META_RESERVED_MAC_ADDRESSES BOARDID_VPD_INFO BOARDID_TINY_PRODUCT_IDENTITY_BATCH \
         BOARDID_TINY_SYSTEM_PRODUCT_IDENTITY_BATCH BOARDID_READING_IDENTITY_WITH_BATCH boardid_record_batch
@@ -276,21 +321,50 @@ exported_calls() {
     [ "$(grep -c '^uint64_t boardid_' "include/edition-$1/boardid.h")" -eq "${#names[@]}" ]
 }
 
-# Runs make install with these words, and nothing of an outer make's.
-install_here() {
-    env -u MAKEFLAGS -u MAKEOVERRIDES -u DESTDIR -u INCLUDEDIR -u LIBDIR -u DOCDIR make -s install "LIB=$lib" "$@"
+# Runs make with these words, and nothing of an outer make's.
+make_here() {
+    env -u MAKEFLAGS -u MAKEOVERRIDES -u DESTDIR -u PREFIX -u INCLUDEDIR -u LIBDIR -u DOCDIR -u LIB make -s "$@"
 }
 
-# What make installs is enough to build an example with the newest header, and with that of each edition.
+# Runs make with these words where the kit is not to be called: it fails, and leaves a file, where it is.
+make_without_kit() {
+    local status=0
+    mkdir -p "$room/no_kit" && printf '#!/bin/sh\ntouch "%s/no_kit/called"\nexit 1\n' "$room" >"$room/no_kit/rt" && chmod +x "$room/no_kit/rt" || return 1
+    PATH="$room/no_kit:$PATH" make_here "$@" || status=$?
+    [ ! -e "$room/no_kit/called" ] || { echo 'the kit was called'; return 1; }
+    return $status
+}
+
+# Runs make install with these words.
+install_here() {
+    make_without_kit install "LIB=$lib" "OUT=$room/out" "MAN=$room/man" "$@"
+}
+
+# A folder's files and links, and the folders that are named after the package.
+what_is_in() {
+    (cd "$1" && find . ! -type d -o -name boardid -o -name 'edition-*' | LC_ALL=C sort)
+}
+
+# What make installs is enough to build an example with the newest header, and with that of each edition, with the shared library and with the archive; also after it was
+# moved elsewhere. What make uninstall leaves is nothing.
 installed() {
     local prefix=$room/prefix flags edition
     install_here "PREFIX=$prefix" || return 1
     cmp "$prefix/include/boardid.h" "include/edition-$newest/boardid.h" || return 1
-    export PKG_CONFIG_PATH=$prefix/lib/pkgconfig
-    pkg-config --atleast-version="$newest" boardid && pkg-config --atleast-version=4.2 boardid || return 1
+    what_is_in "$prefix" >"$room/what"
+    for name in lib/libboardid.a lib/libboardid.so lib/libboardid.so.1 "lib/libboardid.so.1.$version" share/doc/boardid/LICENSE \
+        share/doc/boardid/C-INTERFACE.md share/doc/boardid/examples/list.c share/doc/boardid/examples/image_file.h share/doc/boardid/samples/sku.vpd; do
+        grep -q -x "./$name" "$room/what" || { echo "no $name is installed"; return 1; }
+    done
+    mv "$prefix" "$room/elsewhere" && prefix=$room/elsewhere || return 1
+    export PKG_CONFIG_PATH=$prefix/lib/pkgconfig LD_LIBRARY_PATH=$prefix/lib
+    pkg-config --atleast-version="$newest" boardid && [ "$(pkg-config --modversion boardid)" = "$version" ] || return 1
+    [ "$(realpath "$(pkg-config --variable=libdir boardid)")" = "$prefix/lib" ] || return 1
+    [ "$(realpath "$(pkg-config --variable=includedir boardid)")" = "$prefix/include" ] || return 1
     read -r -a flags <<<"$(pkg-config --cflags --libs boardid)"
-    (cd "$room" && "$cc" -std=c99 -o list-installed "$root/examples/list.c" "${flags[@]}" "${more[@]}") || return 1
-    "$room/list-installed" vpd samples/sku.vpd | grep -q "edition $newest, 1 entry" || return 1
+    (cd "$room" && "$cc" -std=c99 -o list-installed "$prefix/share/doc/boardid/examples/list.c" "${flags[@]}" "${more[@]}") || return 1
+    readelf -d "$room/list-installed" | grep -q 'NEEDED.*\[libboardid\.so\.1\]' || { echo 'pkg-config does not give the shared library'; return 1; }
+    "$room/list-installed" vpd "$prefix/share/doc/boardid/samples/sku.vpd" | grep -q "edition $newest, 1 entry" || return 1
     for edition in "${editions[@]}"; do
         cmp "$prefix/include/boardid/edition-$edition/boardid.h" "include/edition-$edition/boardid.h" || return 1
         (cd "$room" && "$cc" -std=c99 "-I$(pkg-config --variable="edition_$edition" boardid)" -o list-installed "$root/examples/list.c" "${flags[@]}" "${more[@]}") || return 1
@@ -298,14 +372,67 @@ installed() {
         printf '#include <boardid/edition-%s/boardid.h>\ntypedef char itself[BOARDID_EDITION == %s ? 1 : -1];\n' "$edition" "$edition" >"$room/by_path.c"
         "$cc" -std=c99 "-I$prefix/include" -fsyntax-only "$room/by_path.c" || return 1
     done
+    unset LD_LIBRARY_PATH
+    # The words of the command line that docs/C-INTERFACE.md has for the archive.
+    (cd "$room" && "$cc" -std=c99 -o list-installed "$root/examples/list.c" "-I$prefix/include" "$(pkg-config --variable=libdir boardid)/libboardid.a" "${more[@]}") || return 1
+    "$room/list-installed" vpd samples/sku.vpd | grep -q "edition $newest, 1 entry" || return 1
+    mkdir -p "$prefix/share/doc/other" "$prefix/include/boardid/mine" && make_without_kit uninstall "prefix=$prefix" || return 1
+    rmdir "$prefix/include/boardid/mine" "$prefix/include/boardid" || { echo 'a folder of another is gone'; return 1; }
+    [ -z "$(what_is_in "$prefix")" ] || { echo 'uninstall leaves:'; what_is_in "$prefix"; return 1; }
 }
 
-# The files go below DESTDIR, and boardid.pc names the folders without it.
+# The files go below DESTDIR, into GNU's folders, and boardid.pc names the folders without it. A second install of the same leaves the same.
 staged() {
-    install_here PREFIX=/opt/board "DESTDIR=$room/staged" || return 1
-    [ -f "$room/staged/opt/board/lib/libboardid.a" ] && [ -f "$room/staged/opt/board/include/boardid.h" ] &&
-        [ -f "$room/staged/opt/board/share/doc/boardid/C-INTERFACE.md" ] &&
-        grep -q '^prefix=/opt/board$' "$room/staged/opt/board/lib/pkgconfig/boardid.pc"
+    local folder=$room/staged pc
+    install_here PREFIX=/opt/board "DESTDIR=$folder" || return 1
+    [ -f "$folder/opt/board/lib/libboardid.a" ] && [ -f "$folder/opt/board/include/boardid.h" ] &&
+        [ -f "$folder/opt/board/share/doc/boardid/C-INTERFACE.md" ] || return 1
+    ! grep -r -F "$room" "$folder/opt/board/lib/pkgconfig" || return 1
+    what_is_in "$folder" >"$room/once" && install_here prefix=/opt/board "DESTDIR=$folder" && diff "$room/once" <(what_is_in "$folder") || return 1
+    make_without_kit uninstall prefix=/opt/board "DESTDIR=$folder" && [ -z "$(what_is_in "$folder")" ] || return 1
+    install_here prefix=/usr exec_prefix=/usr libdir=/usr/lib/some-where includedir=/usr/include/here docdir=/usr/share/doc/libboardid-dev "DESTDIR=$folder" || return 1
+    pc=$folder/usr/lib/some-where/pkgconfig/boardid.pc
+    cat "$pc"
+    grep -q -x -F "prefix=\${pcfiledir}/../../.." "$pc" && grep -q -x -F "libdir=\${prefix}/lib/some-where" "$pc" &&
+        grep -q -x -F "includedir=\${prefix}/include/here" "$pc" && [ -f "$folder/usr/share/doc/libboardid-dev/LICENSE" ] || return 1
+    install_here PREFIX=/opt/board LIBDIR=/srv/lib INCLUDEDIR=/srv/include DOCDIR=/srv/doc "DESTDIR=$folder" || return 1
+    pc=$folder/srv/lib/pkgconfig/boardid.pc
+    cat "$pc"
+    grep -q -x 'prefix=/opt/board' "$pc" && grep -q -x 'libdir=/srv/lib' "$pc" && grep -q -x 'includedir=/srv/include' "$pc" &&
+        [ -f "$folder/srv/include/boardid/edition-1/boardid.h" ] && [ -f "$folder/srv/doc/LICENSE" ]
+}
+
+# Where there is no archive make install says so, and installs nothing.
+no_archive() {
+    ! make_without_kit install "LIB=$room/none.a" "OUT=$room/none" "prefix=$room/nothing" >"$room/said" 2>&1 &&
+        grep -q "^make install: there is no archive $room/none.a; run make first" "$room/said" && [ ! -e "$room/nothing" ] && [ ! -e "$room/none" ]
+}
+
+# Make in a copy of the sources. The first one calls the kit, here one that only copies the archive; the next ones do nothing, and do not call it. Where the archive of another
+# library is named, what has it in itself is made anew. Make install takes what was made.
+make_twice() {
+    local copy=$room/copy
+    mkdir -p "$copy/crates/boardid/src" "$room/kit" && cp -r Makefile LICENSE include library examples samples docs "$copy" || return 1
+    for name in command man completions; do
+        [ ! -d "$name" ] || cp -r "$name" "$copy" || return 1
+    done
+    echo 'boardid:' >"$copy/crates.txt"
+    echo 'fn boardid_check' >"$copy/crates/boardid/src/lib.rt"
+    printf '#!/bin/sh\nmkdir -p target/staticlib && cp "%s" target/staticlib/libboardid.a\n' "$lib" >"$room/kit/rt" && chmod +x "$room/kit/rt" || return 1
+    PATH="$room/kit:$PATH" make_here -C "$copy" all || return 1
+    make_without_kit -C "$copy" all >"$room/second" 2>&1 || return 1
+    ! grep -v -e 'Nothing to be done' -e 'is left out' -e 'are left out' "$room/second" || { echo 'make does something a second time'; return 1; }
+    make_without_kit -C "$copy" clean all && cmp "$lib" "$copy/target/staticlib/libboardid.a" || return 1
+    make_without_kit -C "$copy" install prefix=/usr "DESTDIR=$copy/to" >"$room/second" 2>&1 && cmp "$lib" "$copy/to/usr/lib/libboardid.a" || return 1
+    make_without_kit -C "$copy" clean && [ ! -e "$copy/target/c" ] && [ ! -e "$copy/target/man" ] && [ -f "$copy/target/staticlib/libboardid.a" ] || return 1
+    echo 'fn boardid_more' >>"$copy/crates/boardid/src/lib.rt"
+    ! make_without_kit -C "$copy" shared >"$room/second" 2>&1 || return 1
+}
+
+# The version is said once, and the headers have it.
+one_version() {
+    [ -n "$version" ] && grep -q -x "#define BOARDID_VERSION_TEXT \"$version\"" include/edition-*/boardid.h &&
+        grep -q -x "#define BOARDID_VERSION $((${version%.*} * 100 + ${version#*.}))" include/edition-*/boardid.h && [ "${version%.*}" = "$newest" ]
 }
 
 # block KIND N: block N, counted from 1, of the blocks of a kind in docs/C-INTERFACE.md.
@@ -350,6 +477,11 @@ else
     echo 'left out: there is no pkg-config'
 fi
 try 'make install with DESTDIR' staged
+try 'make install without an archive' no_archive
+try 'make a second time' make_twice
+try 'library/build' tests/c/library_build.sh
+try 'library/boardid.map decides what the shared library lets out' map_decides
+try 'the version' one_version
 for edition in 1 2; do
     for example in 5 6; do
         try "worked example $example of docs/C-INTERFACE.md, edition $edition" worked_example "$example" "$edition"
