@@ -220,6 +220,19 @@ static void test_finding(void)
     expect_found(image, records, "41", 0, 6);
     give_back(records);
     give_back(image);
+
+    /* Codes that no edition names: 99 twice, and 21. */
+    image = lend_hex(FBOSS_START "63 02 00 FF 63 00 15 01 FA FA 02 F6 F1");
+    records = lend(8 * BOARDID_RECORD_SIZE);
+    expect_count(boardid_list_entries(FBOSS, image.bytes, image.length, records.bytes,
+                                      records.length),
+                 8, "the list with codes that are not named");
+    expect_number(boardid_find_code(records.bytes, 8, 99, 0), 5, "code 99");
+    expect_number(boardid_find_code(records.bytes, 8, 99, 6), 6, "code 99 again");
+    expect_number(boardid_find_code(records.bytes, 8, 21, 0), 7, "code 21");
+    expect_number(boardid_find_code(records.bytes, 8, 0, 0), 8, "code 0");
+    give_back(records);
+    give_back(image);
 }
 
 /* ---- Addresses ------------------------------------------------------------------------------ */
@@ -416,7 +429,9 @@ static void test_pools(void)
     expect_number(boardid_pool_append(pool.bytes, 254, pool.length, longest.bytes, 2), 0,
                   "two bytes more than 254");
     expect_number(boardid_pool_append(pool.bytes, 0, pool.length, longest.bytes, (size_t)-1), 0,
-                  "a text of every length");
+                  "a text of a length that no text has");
+    expect_number(boardid_pool_append(pool.bytes, 254, pool.length, longest.bytes, (size_t)-1), 0,
+                  "the same after 254 bytes");
     give_back(pool);
     give_back(longest);
 }
