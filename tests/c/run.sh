@@ -348,7 +348,7 @@ what_is_in() {
 # What make installs is enough to build an example with the newest header, and with that of each edition, with the shared library and with the archive; also after it was
 # moved elsewhere. What make uninstall leaves is nothing.
 installed() {
-    local prefix=$room/prefix flags edition
+    local prefix=$room/prefix flags edition name
     install_here "PREFIX=$prefix" || return 1
     cmp "$prefix/include/boardid.h" "include/edition-$newest/boardid.h" || return 1
     what_is_in "$prefix" >"$room/what"
@@ -411,7 +411,7 @@ no_archive() {
 # Make in a copy of the sources. The first one calls the kit, here one that only copies the archive; the next ones do nothing, and do not call it. Where the archive of another
 # library is named, what has it in itself is made anew. Make install takes what was made.
 make_twice() {
-    local copy=$room/copy
+    local copy=$room/copy name
     mkdir -p "$copy/crates/boardid/src" "$room/kit" && cp -r Makefile LICENSE include library examples samples docs "$copy" || return 1
     for name in command man completions; do
         [ ! -d "$name" ] || cp -r "$name" "$copy" || return 1
