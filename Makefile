@@ -108,7 +108,7 @@ COMMAND_OBJECTS := $(COMMAND_SOURCES:command/%.c=$(OUT)/command/%.o)
 
 $(COMMAND_OBJECTS): $(OUT)/command/%.o: command/%.c
 	@mkdir -p $(OUT)/command
-	$(CC) -std=gnu11 -D_GNU_SOURCE $(WARNINGS) $(CPPFLAGS) $(CFLAGS) -Iinclude $(JANSSON_CFLAGS) -MMD -MP -c -o $@ $<
+	$(CC) -std=gnu11 $(WARNINGS) $(CPPFLAGS) $(CFLAGS) -Iinclude $(JANSSON_CFLAGS) -MMD -MP -c -o $@ $<
 
 -include $(COMMAND_OBJECTS:.o=.d)
 
@@ -216,7 +216,7 @@ check: all
 	    if [ -n '$(COMMAND)' ]; then tests/command/run.sh; else echo 'left out: the tests of the command, which is not built' >&2; fi; \
 	fi
 	@if [ -d python/tests ]; then \
-	    PYTHONPATH=python BOARDID_LIBRARY='$(CURDIR)/$(OUT)/$(SONAME)' $(PYTHON) -m pytest -q -p no:cacheprovider python/tests; \
+	    PYTHONDONTWRITEBYTECODE=1 PYTHONPATH=python BOARDID_LIBRARY='$(CURDIR)/$(OUT)/$(SONAME)' $(PYTHON) -m pytest -q -p no:cacheprovider python/tests; \
 	fi
 
 clean:

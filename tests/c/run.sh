@@ -408,25 +408,72 @@ no_archive() {
         grep -q "^make install: there is no archive $room/none.a; run make first" "$room/said" && [ ! -e "$room/nothing" ] && [ ! -e "$room/none" ]
 }
 
-# Make in a copy of the sources. The first one calls the kit, here one that only copies the archive; the next ones do nothing, and do not call it. Where the archive of another
-# library is named, what has it in itself is made anew. Make install takes what was made.
+# A copy of the sources, with a command, a manual page and a completion that are there only in name, and one crate.
+copy_of_sources() {
+    mkdir -p "$1/crates/boardid/src" "$1/command" "$1/man" "$1/completions" && cp -r Makefile LICENSE include library examples samples docs "$1" || return 1
+    echo 'boardid:' >"$1/crates.txt"
+    echo 'fn boardid_check' >"$1/crates/boardid/src/lib.rt"
+    printf '#include <boardid.h>\n#include <jansson.h>\n#include "own.h"\nint main(void) { return json_is_true(json_false()) || own; }\n' >"$1/command/main.c"
+    echo 'enum { own = 0 };' >"$1/command/own.h"
+    printf 'boardid(1)\n\n# NAME\n\nboardid - a page\n' >"$1/man/boardid.1.scd"
+    printf 'boardid(3)\n\n# NAME\n\nboardid - a page\n' >"$1/man/boardid.3.scd"
+    : >"$1/completions/boardid"
+}
+
+# Make in a copy of the sources. The first one calls the kit, here one that only copies the archive; the next ones do nothing, and do not call it. Make install takes what
+# was made, and clean leaves the archive. Where the sources changed, make calls the kit, and make install does not.
 make_twice() {
-    local copy=$room/copy name
-    mkdir -p "$copy/crates/boardid/src" "$room/kit" && cp -r Makefile LICENSE include library examples samples docs "$copy" || return 1
-    for name in command man completions; do
-        [ ! -d "$name" ] || cp -r "$name" "$copy" || return 1
-    done
-    echo 'boardid:' >"$copy/crates.txt"
-    echo 'fn boardid_check' >"$copy/crates/boardid/src/lib.rt"
+    local copy=$room/copy
+    copy_of_sources "$copy" && mkdir -p "$room/kit" || return 1
     printf '#!/bin/sh\nmkdir -p target/staticlib && cp "%s" target/staticlib/libboardid.a\n' "$lib" >"$room/kit/rt" && chmod +x "$room/kit/rt" || return 1
     PATH="$room/kit:$PATH" make_here -C "$copy" all || return 1
+    find "$copy/target" -type f -exec touch -r {} {}.time \;
     make_without_kit -C "$copy" all >"$room/second" 2>&1 || return 1
-    ! grep -v -e 'Nothing to be done' -e 'is left out' -e 'are left out' "$room/second" || { echo 'make does something a second time'; return 1; }
-    make_without_kit -C "$copy" clean all && cmp "$lib" "$copy/target/staticlib/libboardid.a" || return 1
-    make_without_kit -C "$copy" install prefix=/usr "DESTDIR=$copy/to" >"$room/second" 2>&1 && cmp "$lib" "$copy/to/usr/lib/libboardid.a" || return 1
+    ! grep -v -e 'is left out' -e 'are left out' "$room/second" || { echo 'make says something a second time'; return 1; }
+    find "$copy/target" -type f ! -name '*.time' -exec sh -c '[ "$1" -nt "$1.time" ] && echo "$1 is made a second time"' - {} \; >"$room/again"
+    ! grep . "$room/again" || return 1
+    make_without_kit -C "$copy" install prefix=/usr "DESTDIR=$copy/to" && cmp "$lib" "$copy/to/usr/lib/libboardid.a" || return 1
     make_without_kit -C "$copy" clean && [ ! -e "$copy/target/c" ] && [ ! -e "$copy/target/man" ] && [ -f "$copy/target/staticlib/libboardid.a" ] || return 1
     echo 'fn boardid_more' >>"$copy/crates/boardid/src/lib.rt"
-    ! make_without_kit -C "$copy" shared >"$room/second" 2>&1 || return 1
+    refuses make_without_kit -C "$copy" shared && rm -f "$room/no_kit/called" || return 1
+    make_without_kit -C "$copy" install prefix=/usr "DESTDIR=$copy/to"
+}
+
+# The command and the manual pages, where what they need is there; where it is not, make says so and makes the rest, and make install leaves them out. A header of the command
+# that changes makes it anew.
+parts_left_out() {
+    local copy=$room/parts name all=(usr/bin/boardid usr/share/man/man1/boardid.1 usr/share/man/man3/boardid.3 usr/share/bash-completion/completions/boardid)
+    copy_of_sources "$copy" || return 1
+    make_without_kit -C "$copy" "LIB=$lib" PKG_CONFIG=false SCDOC=no_such_scdoc >"$room/said" 2>&1 || { cat "$room/said"; return 1; }
+    grep -q '^The command is left out: .*jansson' "$room/said" && grep -q '^The manual pages are left out: .*no_such_scdoc' "$room/said" || return 1
+    [ -x "$copy/target/c/list" ] && [ -f "$copy/target/c/libboardid.so" ] && [ ! -e "$copy/target/c/boardid" ] || return 1
+    make_without_kit -C "$copy" "LIB=$lib" PKG_CONFIG=false SCDOC=no_such_scdoc prefix=/usr "DESTDIR=$copy/less" install >"$room/said" 2>&1 || return 1
+    grep -q '^The command is left out' "$room/said" && [ -f "$copy/less/usr/lib/libboardid.so" ] || return 1
+    for name in "${all[@]}"; do
+        [ ! -e "$copy/less/$name" ] || { echo "$name is installed"; return 1; }
+    done
+    if ! pkg-config --exists jansson || ! command -v scdoc; then
+        echo 'left out: there is no jansson or no scdoc'
+        return 0
+    fi
+    make_without_kit -C "$copy" "LIB=$lib" prefix=/usr "DESTDIR=$copy/more" install && "$copy/more/usr/bin/boardid" || return 1
+    for name in "${all[@]}"; do
+        [ -f "$copy/more/$name" ] || { echo "$name is not installed"; return 1; }
+    done
+    ! readelf -d "$copy/more/usr/bin/boardid" | grep 'NEEDED.*libboardid' || { echo 'the command needs the shared library'; return 1; }
+    touch -d '1 hour ago' "$copy/command/"* "$copy/target/c/command/"* && echo 'enum { own = 1 };' >"$copy/command/own.h" || return 1
+    make_without_kit -C "$copy" "LIB=$lib" target/c/boardid && refuses "$copy/target/c/boardid"
+}
+
+# The flags of the one who builds are in every line that calls the compiler.
+flags_taken() {
+    local copy=$room/flags
+    copy_of_sources "$copy" || return 1
+    make_without_kit -C "$copy" -n "LIB=$lib" CC=the_cc CPPFLAGS=-Dthe_cpp CFLAGS=-the_c LDFLAGS=-the_ld | sed -z 's/\\\n//g' | grep '^the_cc ' >"$room/lines"
+    [ "$(grep -c . "$room/lines")" -ge 6 ] || return 1
+    ! grep -v -e ' -the_c ' "$room/lines" || { echo 'lines without CFLAGS'; return 1; }
+    ! grep -v -e ' -c ' "$room/lines" | grep -v -e ' -the_ld ' || { echo 'lines that link, without LDFLAGS'; return 1; }
+    ! grep -e '\.c\( \|$\)' "$room/lines" | grep -v -e ' -Dthe_cpp ' || { echo 'lines that compile, without CPPFLAGS'; return 1; }
 }
 
 # The version is said once, and the headers have it.
@@ -479,6 +526,8 @@ fi
 try 'make install with DESTDIR' staged
 try 'make install without an archive' no_archive
 try 'make a second time' make_twice
+try 'make without jansson and scdoc' parts_left_out
+try 'the flags of the one who builds' flags_taken
 try 'library/build' tests/c/library_build.sh
 try 'library/boardid.map decides what the shared library lets out' map_decides
 try 'the version' one_version
