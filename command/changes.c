@@ -33,7 +33,7 @@ int check_change(struct job *job)
 }
 
 /* Reads the file of a change and lists its image. */
-static int open_change(struct job *job, struct input *input, struct image *image)
+int open_change(struct job *job, struct input *input, struct image *image)
 {
     int status = check_change(job);
 

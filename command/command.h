@@ -328,6 +328,7 @@ struct change {
 };
 
 int check_change(struct job *job);
+int open_change(struct job *job, struct input *input, struct image *image);
 int new_room(struct job *job, const struct image *image, size_t *room);
 int finish_image(struct job *job, const struct input *input, const struct image *image,
                  const uint8_t *out, size_t room, size_t length, struct change *change);

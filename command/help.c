@@ -34,9 +34,21 @@ const struct command commands[] = {
      "Says format, edition, entries, bytes used and bytes free; or what is wrong, and where.\n"},
     {"strings", "feolj", 1, 1, command_strings, "[OPTIONS] FILE",
      "list the strings of a Tiny image's pool", "Prints each string with its number.\n"},
+    {"vendor", "feoljnis", 1, 10, command_vendor, "[OPTIONS] FILE [NAME=VALUE ..]",
+     "show or change an amplifier's calibration",
+     "Shows the serial number and the eight offsets of the vendor payload of an ONIE image. With\n"
+     "NAME=VALUE it changes them, all or none: serial=TEXT, and in decibels, -12.8 to 12.7,\n"
+     "c-band-west-in, c-band-west-out, c-band-east-in, c-band-east-out, l-band-west-in,\n"
+     "l-band-west-out, l-band-east-in, l-band-east-out.\n"},
     {"names", "fej", 0, 0, command_names, "[OPTIONS]", "list what the editions name",
      "Prints for each code its format, name, short names, the first edition that names it, and the\n"
      "kind of its value. -f and -e narrow it.\n"},
+    {"room", "fejni", 2, 4, command_room,
+     "[OPTIONS] list FILE | add|replace FILE BOARD BODY | remove FILE BOARD | fetch FILE BOARD OUT",
+     "list and change the boards of a room file",
+     "BOARD is a number, 0 to 4294967295. BODY is a file with what was read from the board's chip;\n"
+     "its format is detected, or that of -f. add makes FILE where it is not there. fetch writes the\n"
+     "body to the file OUT; - is standard output.\n"},
     {"help", "", 0, 1, command_help, "[COMMAND]", "print the help of a command, or this", ""},
     {NULL, NULL, 0, 0, NULL, NULL, NULL, NULL},
 };
@@ -67,7 +79,9 @@ static const char *const examples[][2] = {
     {"remove", "boardid remove --dry-run my.bin '#3'"},
     {"check", "boardid check --offset 0x100 --length 256 dump.bin"},
     {"strings", "boardid strings samples/tiny.bin"},
+    {"vendor", "boardid vendor my.bin c-band-west-in=2.4 serial=DQ000MPW"},
     {"names", "boardid names --format onie"},
+    {"room", "boardid room fetch samples/room.bin 2001 board.bin"},
     {"help", "boardid help set"},
 };
 
