@@ -126,7 +126,11 @@ int finish_change(struct job *job, const struct input *input, const uint8_t *byt
         print_json(object);
         object = NULL;
     } else if (status == STATUS_DONE) {
-        put_file_name(&text, input->name);
+        if (standard) {
+            text_add(&text, "standard output");
+        } else {
+            put_file_name(&text, input->name);
+        }
         text_add(&text, ": %s %s", dry ? change->would : change->done, text_of(&change->said));
         if (!differs) {
             text_add(&text, "; no byte changes%s", standard ? "" : ", and nothing is written");

@@ -277,7 +277,7 @@ void prefix_entry(struct job *job, const struct image *image, int64_t entry, uin
 int explain_no_room(struct job *job, const struct image *image, size_t need, size_t room);
 void at_entry(struct job *job, const struct image *image, int64_t entry, uint32_t code,
               const uint8_t *key, size_t key_length, int64_t place);
-const char *required_title(uint32_t code);
+int explain_missing(struct job *job, uint32_t format, const bool there[256]);
 
 /* ---- values.c ------------------------------------------------------------------------------ */
 

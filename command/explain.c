@@ -8,7 +8,7 @@
 #include <stdlib.h>
 #include <string.h>
 
-/* A field that every FBOSS image has. */
+/* The fields that every FBOSS image has. */
 static const uint32_t required[] = {1, 8, 9, 10, 11};
 
 /* Begins a message with the entry that it is about, and keeps entry, name and place for JSON. */
@@ -412,36 +412,44 @@ static int explain_check(struct job *job, const struct image *image, uint64_t pl
     return STATUS_REFUSED;
 }
 
-/* Says which required field is missing: 11. */
-static int explain_missing(struct job *job, const struct image *image)
+/* Says which required fields are missing, of the codes that are there: 11. */
+int explain_missing(struct job *job, uint32_t format, const bool there[256])
 {
     struct text *text = &job->problem.message;
     bool any = false;
     size_t i;
 
+    refuse(job, STATUS_REFUSED, BOARDID_REFUSED_MISSING, "%s", "");
     for (i = 0; i < sizeof required / sizeof required[0]; i++) {
-        size_t place = frames_begin(image->format);
-        bool found = false;
-
-        for (;;) {
-            const struct frame frame = frame_at(image->format, image->bytes, image->room, place);
-
-            if (frame.state != FRAME_ENTRY) {
-                break;
-            }
-            found = found || frame.code == required[i];
-            place += frame.length;
-        }
-        if (!found) {
+        if (!there[required[i]]) {
             text_add(text, "%s%s (code %u)", any ? ", " : "required, and missing: ",
-                     code_title(image->format, required[i]), required[i]);
+                     code_title(format, required[i]), required[i]);
             any = true;
         }
     }
     if (!any) {
         text_add(text, "%s", boardid_refusal_text(BOARDID_REFUSED_MISSING));
     }
-    hint(job, "such an image is made anew: boardid write");
+    return STATUS_REFUSED;
+}
+
+/* Says which required fields an image does not have. */
+static int explain_missing_entry(struct job *job, const struct image *image)
+{
+    bool there[256] = {false};
+    size_t place = frames_begin(image->format);
+
+    for (;;) {
+        const struct frame frame = frame_at(image->format, image->bytes, image->room, place);
+
+        if (frame.state != FRAME_ENTRY) {
+            break;
+        }
+        there[frame.code & 0xFF] = true;
+        place += frame.length;
+    }
+    explain_missing(job, image->format, there);
+    hint(job, "boardid write makes such an image anew");
     return STATUS_REFUSED;
 }
 
@@ -540,7 +548,7 @@ int explain_image(struct job *job, const struct image *image, uint64_t answer)
     case BOARDID_REFUSED_CHECK:
         return explain_check(job, image, place);
     case BOARDID_REFUSED_MISSING:
-        return explain_missing(job, image);
+        return explain_missing_entry(job, image);
     case BOARDID_REFUSED_PAST_ROOM:
         if (explain_length(job, image, place)) {
             job->problem.place = (int64_t)(image->offset + place);
@@ -556,17 +564,4 @@ int explain_image(struct job *job, const struct image *image, uint64_t answer)
         text_add(&job->problem.message, "%s", boardid_refusal_text((uint32_t)number));
         return STATUS_REFUSED;
     }
-}
-
-/* The name of a required field, for what is said of it; null of one that is not required. */
-const char *required_title(uint32_t code)
-{
-    size_t i;
-
-    for (i = 0; i < sizeof required / sizeof required[0]; i++) {
-        if (required[i] == code) {
-            return code_title(BOARDID_FORMAT_FBOSS, code);
-        }
-    }
-    return NULL;
 }

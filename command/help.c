@@ -40,6 +40,11 @@ const struct command commands[] = {
      "NAME=VALUE it changes them, all or none: serial=TEXT, and in decibels, -12.8 to 12.7,\n"
      "c-band-west-in, c-band-west-out, c-band-east-in, c-band-east-out, l-band-west-in,\n"
      "l-band-west-out, l-band-east-in, l-band-east-out.\n"},
+    {"write", "feoljnis", 1, 2, command_write, "[OPTIONS] FILE [JSON]", "make an image from JSON",
+     "JSON is a file with what `boardid list --json` gives, or an array of entries; standard input\n"
+     "where it is - or not given. An entry has code, name or short, in VPD key, and value or\n"
+     "bytes. A new FILE gets the image's own length, or --size; an old one keeps its length, and\n"
+     "what stands before --offset and after --length.\n"},
     {"names", "fej", 0, 0, command_names, "[OPTIONS]", "list what the editions name",
      "Prints for each code its format, name, short names, the first edition that names it, and the\n"
      "kind of its value. -f and -e narrow it.\n"},
@@ -80,6 +85,7 @@ static const char *const examples[][2] = {
     {"check", "boardid check --offset 0x100 --length 256 dump.bin"},
     {"strings", "boardid strings samples/tiny.bin"},
     {"vendor", "boardid vendor my.bin c-band-west-in=2.4 serial=DQ000MPW"},
+    {"write", "boardid list --json a.bin | boardid write b.bin"},
     {"names", "boardid names --format onie"},
     {"room", "boardid room fetch samples/room.bin 2001 board.bin"},
     {"help", "boardid help set"},
