@@ -98,7 +98,7 @@ struct job {
 /* A command: its name, what it takes, and what does it. */
 struct command {
     const char *name;
-    const char *options; /* the letters of its options, and N for --names */
+    const char *options; /* the letters of its options; \\1 is --names */
     int least, most;     /* words after its name */
     int (*run)(struct job *job);
     const char *usage; /* what follows the name */

@@ -54,11 +54,10 @@ int explain_not_named(struct job *job, const struct image *image, uint32_t code)
     if (since != 0) {
         text_add(&problem->message, "edition %u does not name code ", image->edition);
         put_code(&problem->message, image->format, code);
+        text_add(&problem->message, "; edition %u does: -e %u", since, since);
         if (title != NULL) {
-            text_add(&problem->message, ", %s", title);
+            hint(job, "edition %u calls it %s", since, title);
         }
-        text_add(&problem->message, "; edition %u does", since);
-        hint(job, "-e %u", since);
     } else {
         text_add(&problem->message, "no edition names code ");
         put_code(&problem->message, image->format, code);
@@ -281,14 +280,12 @@ static int explain_header(struct job *job, const struct image *image, int number
         return STATUS_REFUSED;
     }
     if (number == BOARDID_REFUSED_VERSION) {
-        job->problem.place = (int64_t)(image->offset + length);
         text_add(text, "byte %" PRIu64 " says version %u, and %s has version %u",
                  image->offset + length, image->bytes[length], format_title(image->format),
                  version);
         return STATUS_REFUSED;
     }
     if (memcmp(image->bytes, magic, length) == 0) {
-        job->problem.place = (int64_t)(image->offset + 3);
         text_add(text, "byte %" PRIu64 " of the header is %02Xh, and FFh is needed",
                  image->offset + 3, image->bytes[3]);
         return STATUS_REFUSED;

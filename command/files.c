@@ -327,7 +327,7 @@ static bool is_unchanged(const struct input *input, const char *real)
 }
 
 /* What did not work in putting a new file in the place of the old one. */
-enum trouble { NO_TROUBLE, NO_TEMPORARY, NO_OWNER, NOT_WRITTEN, CHANGED };
+enum trouble { NO_TROUBLE, NO_TEMPORARY, NO_OWNER, NOT_WRITTEN, CHANGED, NOT_SYNCED };
 
 /* Puts a new file in the place of the old one. Nothing here takes memory. */
 static enum trouble put_in_place(const struct input *input, const struct way *way,
@@ -364,10 +364,13 @@ static enum trouble put_in_place(const struct input *input, const struct way *wa
     }
     folder = open(way->folder, O_RDONLY | O_DIRECTORY | O_CLOEXEC);
     if (folder >= 0) {
-        (void)sync_file(folder);
+        if (!sync_file(folder)) {
+            *why = errno;
+            trouble = NOT_SYNCED;
+        }
         close(folder);
     }
-    return NO_TROUBLE;
+    return trouble;
 }
 
 /* Writes a new file beside the real one and puts it in its place. */
@@ -408,6 +411,9 @@ static int replace(struct job *job, const struct input *input, const uint8_t *by
     case NO_OWNER:
         refuse(job, STATUS_FILE, -1, "its owner and mode cannot be kept: %s", strerror(why));
         break;
+    case NOT_SYNCED:
+        return refuse(job, STATUS_FILE, -1, "is the new file, but its folder cannot be brought to "
+                      "the disk: %s", strerror(why));
     case CHANGED:
         return refuse(job, STATUS_FILE, -1, "another program has changed it; nothing is written");
     default:

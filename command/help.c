@@ -4,11 +4,10 @@
 #include <string.h>
 
 const struct command commands[] = {
-    {"list", "feoljN", 1, 1, command_list, "[OPTIONS] FILE", "list the entries of an image",
+    {"list", "feolj\1", 1, 1, command_list, "[OPTIONS] FILE", "list the entries of an image",
      "Prints a line about the image and then a table: each entry's number, code, name and value.\n"
      "A byte that is no printable ASCII is shown as \\x1b, a backslash as two.\n"
-     "      --names        print only a name for each entry that get takes, one on a line\n",
-     },
+     "      --names        print only a name for each entry that get takes, one on a line\n"},
     {"get", "feoljxr", 2, 2, command_get, "[OPTIONS] FILE NAME", "print one value",
      "Prints the value alone on a line. NAME is #3 for entry 3, a document's name as \"Serial\n"
      "Number\" or serial-number, a short name as serial, a VPD key, or a code as 0x23.\n"

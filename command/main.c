@@ -8,7 +8,7 @@
 #include <stdlib.h>
 #include <string.h>
 
-enum { OPTION_NAMES = 'N' }; /* --names, which has no letter */
+enum { OPTION_NAMES = 1 }; /* --names, which has no letter */
 
 static const struct option longs[] = {
     {"format", required_argument, NULL, 'f'},
@@ -226,15 +226,23 @@ static int take_option(struct job *job, int letter, const char *word)
     return status;
 }
 
-/* Says which option is none, or lacks its value. */
+/* Says which option is none, lacks its value, or has one too many. */
 static int wrong_option(struct job *job, int letter, char **words)
 {
+    const uint8_t byte = (uint8_t)optopt;
     struct text text = {NULL, 0, 0};
+    int i = 0;
 
-    if (optopt != 0 && strchr("feolsc", optopt) != NULL && letter == ':') {
-        text_add(&text, "the option -%c needs a value", (char)optopt);
-    } else if (optopt > 0x20 && optopt < 0x7F && strncmp(words[optind - 1], "--", 2) != 0) {
-        text_add(&text, "there is no option -%c", (char)optopt);
+    while (longs[i].name != NULL && longs[i].val != optopt) {
+        i++;
+    }
+    if (letter == ':') {
+        text_add(&text, "the option --%s needs a value", longs[i].name);
+    } else if (optopt != 0 && longs[i].name != NULL) {
+        text_add(&text, "the option --%s takes no value", longs[i].name);
+    } else if (optopt != 0) {
+        text_add(&text, "there is no option -");
+        text_escaped(&text, &byte, 1);
     } else {
         text_add(&text, "there is no such option: ");
         text_word(&text, words[optind - 1]);
@@ -247,22 +255,26 @@ static int wrong_option(struct job *job, int letter, char **words)
 /* Reads the options of the whole line. The words that are left stand from optind on. */
 static int read_options(struct job *job, int count, char **words, struct given *given)
 {
-    int letter, first = 0;
+    char **copy = memory(((size_t)count + 1) * sizeof *copy);
+    int letter;
 
-    /* Which command it is decides the usage line, so the line is gone through once before. */
+    /*
+     * Which command it is decides the usage line, so the line is gone through once before. Words
+     * are moved in that, so it is done with a copy.
+     */
+    memcpy(copy, words, (size_t)count * sizeof *copy);
     opterr = 0;
-    while ((letter = getopt_long(count, words, ":f:e:o:l:jxrnis:c:hV", longs, NULL)) != -1) {
+    while ((letter = getopt_long(count, copy, ":f:e:o:l:jxrnis:c:hV", longs, NULL)) != -1) {
         given->help = given->help || letter == 'h';
         given->version = given->version || letter == 'V';
     }
     if (optind < count) {
-        job->command = find_command(words[optind]);
-        first = optind;
+        job->command = find_command(copy[optind]);
     }
+    free(copy);
     if (given->help || given->version) {
         return STATUS_DONE;
     }
-    (void)first;
     optind = 0;
     while ((letter = getopt_long(count, words, ":f:e:o:l:jxrnis:c:hV", longs, NULL)) != -1) {
         int status;
@@ -359,8 +371,11 @@ int main(int count, char **words)
 {
     struct job job = {.options = {.edition = BOARDID_EDITION},
                       .problem = {.number = -1, .place = -1, .entry = -1}};
-    int status = run(&job, count, words);
+    int status;
 
+    /* Options stand anywhere on the line, whatever the environment says. */
+    unsetenv("POSIXLY_CORRECT");
+    status = run(&job, count, words);
     text_free(&job.problem.message);
     text_free(&job.problem.hint);
     json_decref(job.problem.name);

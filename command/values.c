@@ -272,21 +272,29 @@ static int identity_word(struct job *job, char *word, struct typed_identity *ide
     return STATUS_DONE;
 }
 
-/* Reads an identity: NAME=VALUE words with blanks between them. The words are written over. */
+/* A copy of a word; null of null. */
+static char *copy_of(const char *word)
+{
+    char *copy = word == NULL ? NULL : strdup(word);
+
+    if (copy == NULL && word != NULL) {
+        no_memory();
+    }
+    return copy;
+}
+
+/* Reads an identity: NAME=VALUE words with blanks between them. Its texts are to be given back. */
 int typed_identity(struct job *job, const char *words, struct typed_identity *identity)
 {
-    char *copy = strdup(words), *rest = copy, *word;
+    char *copy = copy_of(words), *rest = copy, *word;
     int status = STATUS_DONE;
 
     *identity = (struct typed_identity){.serial = NULL};
-    if (copy == NULL) {
-        no_memory();
-    }
     while (status == STATUS_DONE && (word = strsep(&rest, " ")) != NULL) {
         status = *word == '\0' ? STATUS_DONE : identity_word(job, word, identity);
     }
-    identity->serial = identity->serial == NULL ? NULL : strdup(identity->serial);
-    identity->part = identity->part == NULL ? NULL : strdup(identity->part);
+    identity->serial = copy_of(identity->serial);
+    identity->part = copy_of(identity->part);
     free(copy);
     return status;
 }
