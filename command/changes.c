@@ -1,8 +1,8 @@
 /*
  * changes.c: set, add and remove.
  *
- * A new image is made in a second buffer by calls of the library alone. The file is written once, at
- * the end, and only where nothing was refused.
+ * A new image is made in a second buffer by calls of the library alone. The file is written once,
+ * at the end, and only where nothing was refused.
  */
 #include "command.h"
 
@@ -193,6 +193,19 @@ struct wish {
     int64_t pool_entry; /* -1: there is none */
 };
 
+/* Whether entry n has the code, and in VPD 01h the key, of a field that was to be added. */
+static bool is_taken_by(const struct image *image, uint32_t n, const struct wanted *wanted)
+{
+    const struct boardid_record *record = &image->records[n];
+
+    if (record->code != wanted->code) {
+        return false;
+    }
+    return image->format != BOARDID_FORMAT_VPD || wanted->code != BOARDID_VPD_STRING ||
+           (record->key_length == wanted->key_length &&
+            memcmp(image->bytes + record->key_place, wanted->key, wanted->key_length) == 0);
+}
+
 /* The refusal of one step, for people. `need` is what the image would take. */
 static int explain_step(struct job *job, const struct image *image, const struct wish *wish,
                         uint64_t answer, size_t need, size_t room)
@@ -215,15 +228,7 @@ static int explain_step(struct job *job, const struct image *image, const struct
         return explain_rule(job, image, wanted, -1, wish->entry < 0);
     }
     if (number == BOARDID_REFUSED_TWICE) {
-        for (n = 0; n < image->count; n++) {
-            const struct boardid_record *record = &image->records[n];
-
-            if (record->code == wanted->code &&
-                (image->format != BOARDID_FORMAT_VPD || wanted->code != BOARDID_VPD_STRING ||
-                 (record->key_length == wanted->key_length &&
-                  memcmp(image->bytes + record->key_place, wanted->key, wanted->key_length) == 0))) {
-                break;
-            }
+        for (n = 0; n < image->count && !is_taken_by(image, n, wanted); n++) {
         }
         text_add(&job->problem.message, "it is there already, as entry %u, and may come only once",
                  n);

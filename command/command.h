@@ -1,14 +1,14 @@
 /*
  * command.h: what the files of the command `boardid` share.
  *
- * main.c      options, and which command is asked for      help.c     the texts of --help
- * text.c      growing text, and bytes made safe to print   files.c    reading and safe writing
- * names.c     names of codes and entries                   frames.c   where the frames of an image are
- * explain.c   refusals for people                          show.c     values for people and in JSON
- * values.c    values typed by people, as bytes             images.c   list, get, check, strings
- * changes.c   set, add, remove                             pool.c     strings of a Tiny image's pool
- * vendor.c    vendor                                       write.c    write
- * rooms.c     room
+ * main.c     options, and which command it is           help.c    the texts of --help
+ * text.c     growing text, bytes made safe to print     files.c   reading and safe writing
+ * names.c    names of codes and entries                 frames.c  where an image's frames are
+ * explain.c  refusals for people                        show.c    values for people, and in JSON
+ * values.c   values typed by people, as bytes           pool.c    the strings of a Tiny pool
+ * images.c   list, get, check, strings                  changes.c set, add, remove
+ * vendor.c   vendor                                     write.c   write
+ * rooms.c    room
  */
 #ifndef COMMAND_H
 #define COMMAND_H

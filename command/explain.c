@@ -205,8 +205,10 @@ int explain_rule(struct job *job, const struct image *image, const struct wanted
             break;
         }
         put_value(text, value, length);
-        text_add(text, wanted->code == BOARDID_ONIE_COUNTRY_CODE ? " is no country of two letters A-Z"
-                                                                 : " breaks the rule of its code");
+        text_add(text, image->format == BOARDID_FORMAT_ONIE &&
+                               wanted->code == BOARDID_ONIE_COUNTRY_CODE
+                           ? " is no country of two letters A-Z"
+                           : " breaks the rule of its code");
         break;
     case TYPE_DATE:
         put_value(text, value, length);
@@ -352,8 +354,8 @@ static void explain_frame(struct job *job, const struct image *image, const stru
     if (frame->state == FRAME_FORBIDDEN) {
         job->problem.place = (int64_t)place;
         job->problem.entry = entry;
-        text_add(text, "entry %" PRId64 ", at byte %" PRIu64 ": %02Xh is no %s that an entry can have",
-                 entry, place, frame->code,
+        text_add(text, "entry %" PRId64 ", at byte %" PRIu64 ": %02Xh is no %s that an entry can "
+                 "have", entry, place, frame->code,
                  image->format == BOARDID_FORMAT_VPD    ? "type"
                  : image->format == BOARDID_FORMAT_TINY ? "tag"
                                                         : "code");

@@ -108,7 +108,7 @@ int read_input(struct job *job, const char *name, bool may_miss, struct input *i
     return status;
 }
 
-/* The next run, from run->end on, in which a file and its new bytes differ; false: there is none. */
+/* The next run, from run->end on, in which a file and its new bytes differ; false: none. */
 bool next_run(const struct input *input, const uint8_t *bytes, size_t length, struct run *run)
 {
     const size_t both = input->length < length ? input->length : length;
@@ -193,9 +193,8 @@ static int read_back(struct job *job, const struct input *input, const uint8_t *
                 } else if (got == 0) {
                     refuse(job, STATUS_FILE, -1, "written, but ends at byte %zu now", run.place);
                 } else {
-                    refuse(job, STATUS_FILE, -1,
-                           "written, but byte %zu reads %02Xh, not %02Xh: the chip does not keep it",
-                           run.place + i, block[i], bytes[run.place + i]);
+                    refuse(job, STATUS_FILE, -1, "written, but byte %zu reads %02Xh, not %02Xh: the "
+                           "chip does not keep it", run.place + i, block[i], bytes[run.place + i]);
                     hint(job, "is the chip protected against writing?");
                 }
                 job->problem.place = (int64_t)(run.place + i);
@@ -217,9 +216,8 @@ static int write_in_place(struct job *job, const struct input *input, const uint
     int fd, why = 0;
 
     if (length != input->length) {
-        return refuse(job, STATUS_FILE, -1,
-                      "--in-place keeps a file's length: it has %zu bytes, and %zu are to be written",
-                      input->length, length);
+        return refuse(job, STATUS_FILE, -1, "--in-place keeps a file's length: it has %zu bytes, "
+                      "and %zu are to be written", input->length, length);
     }
     fd = open(input->name, O_WRONLY | O_CLOEXEC | O_NOCTTY);
     if (fd < 0) {

@@ -1,8 +1,8 @@
 /*
  * frames.c: where the frames of an image are.
  *
- * The library alone says whether an image is accepted. This walk is for what it does not give: where
- * an accepted image ends, and which entry of a refused one stands at the place of the refusal.
+ * The library alone says whether an image is accepted. This walk is for what it does not give:
+ * where an accepted image ends, and which entry of a refused one stands at the refusal's place.
  */
 #include "command.h"
 

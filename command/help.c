@@ -13,7 +13,8 @@ const struct command commands[] = {
      "Number\" or serial-number, a short name as serial, a VPD key, or a code as 0x23.\n"
      "  -x, --hex          print it in hexadecimal\n"
      "  -r, --raw          print its bytes as they are; not to a terminal\n"},
-    {"set", "feoljxnis", 3, 3, command_set, "[OPTIONS] FILE NAME VALUE", "give an entry a new value",
+    {"set", "feoljxnis", 3, 3, command_set, "[OPTIONS] FILE NAME VALUE",
+     "give an entry a new value",
      "VALUE is typed as get prints it; `boardid names` says of which kind it is:\n"
      "  text       any text                     number    decimal, or hexadecimal after 0x\n"
      "  address    02:1a:2b:3c:4d:5e; in FBOSS with a count, 02:1a:2b:3c:4d:5e/16\n"
@@ -40,19 +41,19 @@ const struct command commands[] = {
      "c-band-west-in, c-band-west-out, c-band-east-in, c-band-east-out, l-band-west-in,\n"
      "l-band-west-out, l-band-east-in, l-band-east-out.\n"},
     {"write", "feoljnis", 1, 2, command_write, "[OPTIONS] FILE [JSON]", "make an image from JSON",
-     "JSON is a file with what `boardid list --json` gives, or an array of entries; standard input\n"
-     "where it is - or not given. An entry has code, name or short, in VPD key, and value or\n"
-     "bytes. A new FILE gets the image's own length, or --size; an old one keeps its length, and\n"
-     "what stands before --offset and after --length.\n"},
+     "JSON is a file with what `boardid list --json` gives, or an array of entries; standard\n"
+     "input where it is - or not given. An entry has code, name or short, in VPD key, and value\n"
+     "or bytes. A new FILE gets the image's own length, or --size; an old one keeps its length,\n"
+     "and what stands before --offset and after --length.\n"},
     {"names", "fej", 0, 0, command_names, "[OPTIONS]", "list what the editions name",
-     "Prints for each code its format, name, short names, the first edition that names it, and the\n"
-     "kind of its value. -f and -e narrow it.\n"},
+     "Prints for each code its format, name, short names, the first edition that names it, and\n"
+     "the kind of its value. -f and -e narrow it.\n"},
     {"room", "fejni", 2, 4, command_room,
      "[OPTIONS] list FILE | add|replace FILE BOARD BODY | remove FILE BOARD | fetch FILE BOARD OUT",
      "list and change the boards of a room file",
-     "BOARD is a number, 0 to 4294967295. BODY is a file with what was read from the board's chip;\n"
-     "its format is detected, or that of -f. add makes FILE where it is not there. fetch writes the\n"
-     "body to the file OUT; - is standard output.\n"},
+     "BOARD is a number, 0 to 4294967295. BODY is a file with what was read from the board's\n"
+     "chip; its format is detected, or that of -f. add makes FILE where it is not there. fetch\n"
+     "writes the body to the file OUT; - is standard output.\n"},
     {"help", "", 0, 1, command_help, "[COMMAND]", "print the help of a command, or this", ""},
     {NULL, NULL, 0, 0, NULL, NULL, NULL, NULL},
 };
@@ -70,7 +71,7 @@ static const struct option_help option_helps[] = {
     {'l', "  -l, --length N     the image's room has N bytes; else all to the file's end\n"},
     {'s', "  -s, --size N       make the image's room N bytes, longer or shorter\n"},
     {'n', "  -n, --dry-run      show what would change, and change nothing\n"},
-    {'i', "  -i, --in-place     write only the bytes that differ, into the file, and read them back\n"},
+    {'i', "  -i, --in-place     write only the bytes that differ, into the file; read them back\n"},
     {'j', "  -j, --json         print JSON\n"},
 };
 
@@ -120,9 +121,9 @@ static void print_all(void)
     size_t i;
 
     printf("usage: boardid COMMAND [OPTIONS] ARGUMENTS\n\n"
-           "Reads, writes and edits the identity chips of boards, as files: FBOSS v5, VPD 2.0, Tiny\n"
-           "EEPROM version 2 and ONIE TlvInfo. A FILE that is - is standard input; a change puts the\n"
-           "new file to standard output then.\n\nCommands:\n");
+           "Reads, writes and edits the identity chips of boards, as files: FBOSS v5, VPD 2.0,\n"
+           "Tiny EEPROM version 2 and ONIE TlvInfo. A FILE that is - is standard input; a change\n"
+           "puts the new file to standard output then.\n\nCommands:\n");
     for (command = commands; command->name != NULL; command++) {
         printf("  %-8s  %s\n", command->name, command->what);
     }

@@ -14,8 +14,8 @@ int find_room(struct job *job, const struct input *input, size_t *offset, size_t
     const size_t length = input->length > FILE_MAX ? FILE_MAX : input->length;
 
     if (options->offset > length) {
-        return refuse(job, STATUS_FILE, -1, "--offset %" PRIu64 " is past the end: the file has %s%zu"
-                      " bytes", options->offset, more, length);
+        return refuse(job, STATUS_FILE, -1, "--offset %" PRIu64 " is past the end: the file has "
+                      "%s%zu bytes", options->offset, more, length);
     }
     *offset = (size_t)options->offset;
     *room = input->length - *offset;
@@ -49,7 +49,9 @@ static bool is_blank(const uint8_t *bytes, size_t room)
 /* Says that the chip is blank. */
 static int blank(struct job *job, const uint8_t *bytes, size_t room)
 {
-    refuse(job, STATUS_BLANK, -1, "the chip is blank: all %zu bytes are %02Xh", room, bytes[0]);
+    refuse(job, STATUS_BLANK, -1, "the chip is blank: all %s%zu bytes are %02Xh",
+           room > FILE_MAX ? "of its first " : "", room > FILE_MAX ? (size_t)FILE_MAX : room,
+           bytes[0]);
     hint(job, "boardid write makes an image");
     return STATUS_BLANK;
 }
@@ -456,7 +458,6 @@ int command_strings(struct job *job)
 {
     struct input input;
     struct image image;
-    struct boardid_part part;
     int status = open_image(job, &input, &image);
 
     if (status == STATUS_DONE && image.format != BOARDID_FORMAT_TINY) {
@@ -466,7 +467,6 @@ int command_strings(struct job *job)
     } else if (status == STATUS_DONE &&
                (image.count == 0 ||
                 image.records[image.count - 1].code != BOARDID_TINY_ASCII_STRINGS)) {
-        (void)ask_string(&image, 0, &part);
         status = refuse(job, STATUS_REFUSED, BOARDID_REFUSED_NO_STRING, "there is no string pool");
         hint(job, "boardid add with a text makes one");
     }

@@ -4,6 +4,7 @@
 #include <errno.h>
 #include <getopt.h>
 #include <inttypes.h>
+#include <signal.h>
 #include <stdarg.h>
 #include <stdlib.h>
 #include <string.h>
@@ -375,6 +376,8 @@ int main(int count, char **words)
 
     /* Options stand anywhere on the line, whatever the environment says. */
     unsetenv("POSIXLY_CORRECT");
+    /* A file that may not grow is told as any other that cannot be written. */
+    signal(SIGXFSZ, SIG_IGN);
     status = run(&job, count, words);
     text_free(&job.problem.message);
     text_free(&job.problem.hint);

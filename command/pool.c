@@ -100,7 +100,8 @@ static bool is_shared(const struct image *image, uint32_t number, int64_t own, i
             return true;
         }
         for (i = 0; i < count; i++) {
-            if ((n != own || i != which) && image->bytes[record->value_place + (size_t)i] == number) {
+            if ((n != own || i != which) &&
+                image->bytes[record->value_place + (size_t)i] == number) {
                 return true;
             }
         }
@@ -138,8 +139,8 @@ static int check_string(struct job *job, const uint8_t *bytes, size_t length)
     for (i = 0; i < length; i++) {
         if (bytes[i] < 0x20 || bytes[i] > 0x7E) {
             return refuse(job, STATUS_REFUSED, BOARDID_REFUSED_RULE,
-                          "the text has byte %02Xh as character %zu; a string of the pool is ASCII, "
-                          "20h to 7Eh", bytes[i], i + 1);
+                          "the text has byte %02Xh as character %zu; a string of the pool is "
+                          "ASCII, 20h to 7Eh", bytes[i], i + 1);
         }
     }
     return STATUS_DONE;

@@ -40,8 +40,8 @@ static int explain_file(struct job *job, const struct input *input)
         return STATUS_REFUSED;
     }
     if (bytes[3] != 0 || bytes[6] != 0 || bytes[7] != 0) {
-        text_add(text, "bytes 3, 6 and 7 of the head are %02x %02x %02x, and 00 is needed", bytes[3],
-                 bytes[6], bytes[7]);
+        text_add(text, "bytes 3, 6 and 7 of the head are %02x %02x %02x, and 00 is needed",
+                 bytes[3], bytes[6], bytes[7]);
         return STATUS_REFUSED;
     }
     rows = (size_t)bytes[4] << 8 | bytes[5];
@@ -58,8 +58,8 @@ static int explain_file(struct job *job, const struct input *input)
 
         place = BOARDID_ROOM_HEAD_SIZE + k * BOARDID_ROOM_ROW_SIZE;
         if (k > 0 && board <= before) {
-            text_add(text, "row %zu, at byte %zu, has board %u after board %u; they have to rise", k,
-                     place, board, before);
+            text_add(text, "row %zu, at byte %zu, has board %u after board %u; they have to rise",
+                     k, place, board, before);
             job->problem.place = (int64_t)place;
             return STATUS_REFUSED;
         }

@@ -363,7 +363,8 @@ json_t *entry_json(const struct image *image, uint32_t n)
     put(entry, "code", json_integer(record->code));
     put(entry, "kind", json_integer(record->kind));
     put(entry, "name", title == NULL ? json_null() : json_string(title));
-    put(entry, "short", record->kind == 0 ? json_array() : json_shorts(image->format, record->code));
+    put(entry, "short",
+        record->kind == 0 ? json_array() : json_shorts(image->format, record->code));
     if (image->format == BOARDID_FORMAT_VPD) {
         const uint8_t *key = image->bytes + record->key_place;
 

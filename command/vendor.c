@@ -81,7 +81,8 @@ static int explain_payload(struct job *job, const struct image *image, uint32_t 
     serial = joined.length == 0 ? 0 : bytes[0];
     switch (number) {
     case BOARDID_REFUSED_NO_PAYLOAD:
-        text_add(text, "there is no vendor payload: no Vendor Extension begins with 00 00 1f 79 00");
+        text_add(text, "there is no vendor payload: no Vendor Extension begins with "
+                 "00 00 1f 79 00");
         hint(job, "boardid vendor FILE serial=TEXT makes one");
         break;
     case BOARDID_REFUSED_PAYLOAD_LENGTH:
@@ -328,7 +329,7 @@ static void stepped(struct steps *steps, uint64_t answer)
     steps->length = boardid_answer_count(answer);
 }
 
-/* Puts the values of the new pieces into the image: removals first, then what shrinks, then grows. */
+/* Puts the values of the new pieces into the image: removals, then what shrinks, then grows. */
 static void put_pieces(const struct image *image, const struct payload *payload,
                        const uint8_t *lengths, size_t count, const uint8_t *values,
                        size_t values_length, struct steps *steps)

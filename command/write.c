@@ -166,7 +166,8 @@ static int flags_value(struct job *job, const json_t *entry, const json_t *json,
     if (json_is_array(json)) {
         json_array_foreach(json, i, word) {
             if (!json_is_string(word) || !read_flags(json_string_value(word), &one)) {
-                return wanted_json(job, "flags are any of assembly, configuration, burn-in, system");
+                return wanted_json(job, "flags are any of assembly, configuration, burn-in and "
+                                   "system");
             }
             flags |= one;
         }
@@ -450,8 +451,8 @@ static int explain_write(struct job *job, const struct image *image, const struc
         }
         return explain_missing(job, image->format, there);
     case BOARDID_REFUSED_TOO_LONG:
-        refuse(job, STATUS_REFUSED, (int)number, "%zu bytes of room, and an image has at most 65536",
-               room);
+        refuse(job, STATUS_REFUSED, (int)number,
+               "%zu bytes of room, and an image has at most 65536", room);
         hint(job, "--length 65536, and --offset N where it does not begin at byte 0");
         return STATUS_REFUSED;
     case BOARDID_REFUSED_RULE:
