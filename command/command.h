@@ -142,6 +142,7 @@ struct run {
 int read_input(struct job *job, const char *name, bool may_miss, struct input *input);
 int write_output(struct job *job, const struct input *input, const uint8_t *bytes, size_t length);
 bool next_run(const struct input *input, const uint8_t *bytes, size_t length, struct run *run);
+void hold_standard(void);
 bool is_standard(const char *name);
 void put_file_name(struct text *text, const char *name);
 

@@ -15,6 +15,22 @@
 #include <string.h>
 #include <unistd.h>
 
+/*
+ * Sees that no file is opened in the place of a standard one that is closed. What stands there then
+ * can neither be read nor written, so that it is told.
+ */
+void hold_standard(void)
+{
+    int fd;
+
+    for (fd = STDIN_FILENO; fd <= STDERR_FILENO; fd++) {
+        if (fcntl(fd, F_GETFD) < 0 && errno == EBADF &&
+            open("/dev/null", fd == STDIN_FILENO ? O_WRONLY : O_RDONLY) < 0) {
+            exit(STATUS_FILE);
+        }
+    }
+}
+
 /* Whether a file's name stands for standard input and output. */
 bool is_standard(const char *name)
 {
@@ -193,8 +209,9 @@ static int read_back(struct job *job, const struct input *input, const uint8_t *
                 } else if (got == 0) {
                     refuse(job, STATUS_FILE, -1, "written, but ends at byte %zu now", run.place);
                 } else {
-                    refuse(job, STATUS_FILE, -1, "written, but byte %zu reads %02Xh, not %02Xh: the "
-                           "chip does not keep it", run.place + i, block[i], bytes[run.place + i]);
+                    refuse(job, STATUS_FILE, -1, "written, but byte %zu reads %02Xh, not %02Xh: "
+                           "the chip does not keep it", run.place + i, block[i],
+                           bytes[run.place + i]);
                     hint(job, "is the chip protected against writing?");
                 }
                 job->problem.place = (int64_t)(run.place + i);

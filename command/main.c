@@ -374,6 +374,7 @@ int main(int count, char **words)
                       .problem = {.number = -1, .place = -1, .entry = -1}};
     int status;
 
+    hold_standard();
     /* Options stand anywhere on the line, whatever the environment says. */
     unsetenv("POSIXLY_CORRECT");
     /* A file that may not grow is told as any other that cannot be written. */

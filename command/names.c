@@ -355,6 +355,15 @@ static int no_entry(struct job *job, const struct image *image, const char *word
     }
     refuse(job, STATUS_REFUSED, BOARDID_REFUSED_NOT_THERE, "%s", text_of(&text));
     text_free(&text);
+    for (n = 0; n < image->count; n++) {
+        const uint32_t code = image->records[n].code;
+        const uint32_t since = edition_that_names(image->format, code);
+
+        if (since > image->edition && name_fits(image->format, code, true, word)) {
+            hint(job, "edition %u names it: -e %u", since, since);
+            break;
+        }
+    }
     return STATUS_REFUSED;
 }
 

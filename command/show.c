@@ -3,7 +3,7 @@
 
 #include <string.h>
 
-enum { TEXT_CUT = 256 }; /* the most characters of a text in the table */
+enum { TEXT_CUT = 256 }; /* the most characters of a text in the table, and in a sentence */
 
 /* How a record's value is shown. */
 enum type record_type(const struct image *image, const struct boardid_record *record)
@@ -64,16 +64,18 @@ json_t *string_json(const struct image *image, uint32_t number)
                                                       : json_null();
 }
 
-/* Adds text; the table has the front of a long one. */
+/* Adds text; all but get has the front of a long one. */
 static void put_text(struct text *text, const uint8_t *bytes, size_t length, enum style style)
 {
+    const size_t shown = style != STYLE_GET && length > TEXT_CUT ? TEXT_CUT : length;
+
     if (style == STYLE_SAID) {
-        text_quoted(text, bytes, length);
-    } else if (style == STYLE_TABLE && length > TEXT_CUT) {
-        text_escaped(text, bytes, TEXT_CUT);
-        text_add(text, " .. (%zu bytes)", length);
+        text_quoted(text, bytes, shown);
     } else {
-        text_escaped(text, bytes, length);
+        text_escaped(text, bytes, shown);
+    }
+    if (shown != length) {
+        text_add(text, " .. (%zu bytes)", length);
     }
 }
 
@@ -155,7 +157,7 @@ static void put_identity(struct text *text, const struct image *image,
     text_add(text, get ? " free=%02x%02x" : ", free %02x:%02x", identity.free_bytes[0],
              identity.free_bytes[1]);
     if (record->reading == BOARDID_READING_IDENTITY_WITH_BATCH) {
-        text_add(text, get ? " batch=%04u" : ", batch %04u", boardid_record_batch(record));
+        text_add(text, get ? " batch=%u" : ", batch %u", boardid_record_batch(record));
     }
 }
 
