@@ -13,7 +13,9 @@
 #ifndef COMMAND_H
 #define COMMAND_H
 
+#ifndef _GNU_SOURCE
 #define _GNU_SOURCE
+#endif
 
 #include <jansson.h>
 #include <stdbool.h>
