@@ -14,4 +14,4 @@ else
     marks='not long'
 fi
 cd "$folder"
-PYTHONDONTWRITEBYTECODE=1 exec /usr/bin/python3 -m pytest -q -rs -p no:cacheprovider --rootdir="$folder" -m "$marks" "$@" .
+PYTHONDONTWRITEBYTECODE=1 exec /usr/bin/python3 -m pytest -q -rs -p no:cacheprovider --rootdir="$folder" -m "$marks" "$@"
