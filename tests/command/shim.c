@@ -23,7 +23,7 @@
 #include <time.h>
 #include <unistd.h>
 
-static unsigned long calls;
+static unsigned long asked;
 
 /* Whether SHIM_DO is this word. */
 static int does(const char *word)
@@ -38,10 +38,9 @@ static int noted(const char *name, int fd, long long place, size_t length)
 {
     const char *path = getenv("SHIM_LOG"), *slow = getenv("SHIM_SLOW");
     char line[600], link[64], target[400], fail[32];
+    int interruptible = strstr("write pwrite fsync", name) != NULL, log;
     long at;
-    int log;
 
-    calls++;
     snprintf(link, sizeof link, "/proc/self/fd/%d", fd);
     at = fd < 0 ? -1 : (long)syscall(SYS_readlinkat, AT_FDCWD, link, target, sizeof target - 1);
     target[at < 0 ? 0 : at] = 0;
@@ -63,7 +62,7 @@ static int noted(const char *name, int fd, long long place, size_t length)
         errno = EIO;
         return 1;
     }
-    if (does("eintr") && calls % 2 == 1 && (strcmp(name, "rename") != 0)) {
+    if (does("eintr") && fd > 2 && interruptible && ++asked % 2 == 1) {
         errno = EINTR;
         return 1;
     }

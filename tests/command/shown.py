@@ -47,10 +47,19 @@ def revision(major: int, minor: int) -> str:
     return f"{word}.{minor:02d}"
 
 
+def tests_passed(byte: int) -> list[str]:
+    """The words of the tests passed."""
+    return [TESTS[bit] for bit in range(4) if byte >> bit & 1]
+
+
 def flag_words(byte: int) -> list[str]:
     """The tests passed, and the reserved bits as a number where one is on."""
-    words = [TESTS[bit] for bit in range(4) if byte >> bit & 1]
-    return words + ([f"0x{byte & 0xF0:02x}"] if byte & 0xF0 else [])
+    return tests_passed(byte) + ([f"0x{byte & 0xF0:02x}"] if byte & 0xF0 else [])
+
+
+def json_text(text: Optional[bytes]) -> Optional[str]:
+    """Text in JSON: as it is where it is printable, else null."""
+    return text.decode("ascii") if text is not None and printable(text) else None
 
 
 def type_of(image: f.Image, entry: f.Entry) -> str:
@@ -102,7 +111,7 @@ def got(image: f.Image, entry: f.Entry) -> str:
             f"free={value[4:6].hex()}",
         ]
         if len(value) == 8:
-            words.append(f"batch={value[6] + 256 * value[7]}")
+            words.append(f"batch={value[6] + 256 * value[7]:04d}")
         return " ".join(words)
     if kind == "date":
         return _date(value)
@@ -127,18 +136,16 @@ def value_json(image: f.Image, entry: f.Entry) -> dict[str, Any]:
         out["value"] = address(value)
         out["count"] = int.from_bytes(value[6:], "big") if len(value) == 8 else 1
     elif kind == "string":
-        text = string_at(image, value[0])
-        out["value"] = None if text is None else escaped(text)
+        out["value"] = json_text(string_at(image, value[0]))
         out["string_number"] = value[0]
     elif kind == "flags":
-        out["value"] = flag_words(value[0])
+        out["value"] = tests_passed(value[0])
         out["flags"] = value[0]
     elif kind == "identity":
-        serial, part = string_at(image, value[0]), string_at(image, value[1])
         out["value"] = {
-            "serial": None if serial is None else escaped(serial),
+            "serial": json_text(string_at(image, value[0])),
             "serial_string": value[0],
-            "part": None if part is None else escaped(part),
+            "part": json_text(string_at(image, value[1])),
             "part_string": value[1],
             "revision": revision(value[2], value[3]),
             "free": value[4:6].hex(),
@@ -151,7 +158,8 @@ def value_json(image: f.Image, entry: f.Entry) -> dict[str, Any]:
         out["value"] = _datetime(value, "T")
     elif kind == "pool":
         strings, rest = f.pool_strings(value)
-        out["value"] = [escaped(f.string_text(stored)) for stored in strings]
+        texts = [json_text(f.string_text(stored)) for stored in strings]
+        out["value"] = None if None in texts else texts
         if rest:
             out["rest"] = rest.hex()
     else:

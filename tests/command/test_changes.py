@@ -116,7 +116,7 @@ def refused(path: Path, number: int, place: Optional[int], *words: Word) -> Resu
     result = run(command, "-j", path, *rest)
     assert result.status == REFUSED, result
     assert result.error["number"] == number, result
-    if place is not None:
+    if place is not None and number in (5, 6, 7, 8, 9, 10, 14):
         assert result.error["place"] == place, result
     said = run(command, path, *rest)
     assert (said.status, said.out) == (REFUSED, b"")
@@ -229,7 +229,7 @@ def test_add_refusals(copy: Copy) -> None:
     os.unlink(copy("board.vpd"))
     refused(copy("board.vpd"), 7, None, "add", "lab.rack", "X")
     os.unlink(copy("board.vpd"))
-    refused(copy("board.vpd"), 8, None, "add", "-c", "0xfe", "other", "abcd")
+    refused(copy("board.vpd"), 8, None, "add", "-c", "0xfe", "other", "01020304")
     os.unlink(copy("board.vpd"))
     refused(copy("sku.vpd"), 12, None, "add", "note", "x" * 200)
     os.unlink(copy("sku.vpd"))

@@ -50,10 +50,7 @@ def test_list_json_of_every_edition(name: str, edition: int) -> None:
         return
     image = model(name, edition)
     for entry, said in zip(image.entries, result.json["entries"]):
-        wanted = shown.entry_json(image, entry)
-        assert {k: v for k, v in said.items() if k != "frame_length"} == {
-            k: v for k, v in wanted.items() if k != "frame_length"
-        }
+        assert said == shown.entry_json(image, entry)
 
 
 def line_of(result: Result, number: int) -> str:
@@ -72,13 +69,13 @@ def in_table(image: f.Image, entry: f.Entry) -> str:
     if kind == "datetime":
         return shown.got(image, entry).replace("T", " ")
     if kind == "flags":
-        names = [word for word in shown.flag_words(value[0]) if not word.startswith("0x")]
+        names = shown.tests_passed(value[0])
         return f"{len(names)} of 4: {', '.join(names)}" if names else "0 of 4"
     if kind == "identity":
         serial, part = shown.string_at(image, value[0]), shown.string_at(image, value[1])
         assert serial is not None and part is not None
         free = f"{value[4]:02x}:{value[5]:02x}"
-        batch = f", batch {value[6] + 256 * value[7]}" if len(value) == 8 else ""
+        batch = f", batch {value[6] + 256 * value[7]:04d}" if len(value) == 8 else ""
         return (
             f'serial "{shown.escaped(serial)}", part "{shown.escaped(part)}", '
             f"revision {shown.revision(value[2], value[3])}, free {free}{batch}"
@@ -264,6 +261,15 @@ def test_strings_with_a_rest() -> None:
     answer = run("strings", "-j", "-", stdin=image).json
     assert [s["text"] for s in answer["strings"]] == ["ABC"]
     assert answer["rest"] == "4445"
+
+
+def test_strings_that_are_not_printable() -> None:
+    image = f.write(f.TINY, 4, [f.Field(0x10, b"\0"), f.Field(0x01, b"A\x1b\xc3\\\xdcAB\xc3")], 40)
+    text = run("strings", "-", stdin=image).text
+    assert "A\\x1bC" in text and "\\\\\\\\" in text and "ABC" in text
+    answer = run("strings", "-j", "-", stdin=image).json
+    assert [s["text"] for s in answer["strings"]] == [None, "\\\\", "ABC"]
+    assert run("get", "-", "serial", stdin=image).text == "A\\x1bC\n"
 
 
 def test_strings_refused() -> None:

@@ -66,12 +66,12 @@ CASES = [
     Case("tiny version", 3, with_byte(TI, 1, 1), 4, words=("1", "2")),
     Case("onie version", 4, with_byte(ON, 8, 2), 4, words=("2", "1")),
     Case("onie short", 4, ON[:10], 3, words=("10",)),
-    Case("fboss cut", 1, FB[:100], 5, 6),
-    Case("fboss no end", 1, FB[:206], 5, 20),
+    Case("fboss cut", 1, FB[:100], 5, 8, "Product Version"),
+    Case("fboss no end", 1, FB[:206], 5, words=("without an end",)),
     Case("tiny length", 3, with_byte(TI, 2, 3), 5, words=("3",)),
     Case("tiny length past", 3, with_byte(TI, 2, 200), 5, words=("200", "74")),
     Case("onie length", 4, with_byte(ON, 9, 0x20), 5),
-    Case("onie length past", 4, ON[:150], 5, words=("150",)),
+    Case("onie length past", 4, ON[:150], 5, words=("191", "139")),
     Case("onie bytes after the check", 4, with_byte(ON, 10, 0xC4), 5),
     Case("vpd cut", 2, sample("board.vpd")[:40], 5, 2),
     Case("fboss code 0", 1, with_byte(FB, 4, 0), 6, 0),
@@ -91,7 +91,7 @@ CASES = [
     Case("tiny major", 3, tiny("1000", "610001640000" + "00"), 7, 1, "Product identity", ("major", "100")),
     Case("tiny minor", 3, tiny("1000", "62000100640000"), 7, 1, "System product identity", ("minor", "100")),
     Case("tiny batch", 3, tiny("1000", "800001010200001027"), 7, 1, "Product identity w/ batch code", ("batch", "10000")),
-    Case("onie country", 4, onie(f.Field(0x2C, b"cz")), 7, 0, "Country Code", ("capital",)),
+    Case("onie country", 4, onie(f.Field(0x2C, b"cz")), 7, 0, "Country Code", ("A-Z",)),
     Case("onie date", 4, onie(f.Field(0x25, b"02/30/2023 00:00:00")), 7, 0, "Manufacture Date"),
     Case("onie time", 4, onie(f.Field(0x25, b"02/20/2023 24:00:00")), 7, 0, "Manufacture Date"),
     Case("onie extension", 4, onie(f.Field(0xFD, b"abc")), 7, 0, "Vendor Extension", ("3 bytes", "4")),
@@ -169,7 +169,8 @@ def test_sentence_of_the_specification(tmp_path: Path) -> None:
 def test_twelve(copy: Copy) -> None:
     path = copy("sku.vpd")
     said = run("add", path, "k", "v").said
-    assert f"boardid: {path}: needs 14 bytes, the room has 9; -s 14 makes it longer (refused 12)" in said
+    assert f"boardid: {path}: needs 14 bytes, the room has 9" in said
+    assert "-s 14 makes it longer" in said and "(refused 12)" in said
     error = run("add", "-j", path, "k", "v").error
     assert error["number"] == 12
     assert "14" in error["message"] and "9" in error["message"]

@@ -136,7 +136,8 @@ def typed(name: str, word: str, value: Word, stored: Optional[bytes], hexadecima
         ("tiny.bin", "identity", "serial=PN-1002", bytes([1, 1, 128, 5, 0x41, 0x31])),
         ("tiny.bin", "identity", "part=SYS-88 serial=RACK-17", bytes([2, 3, 128, 5, 0x41, 0x31])),
         ("tiny.bin", "identity", "free=ffff", bytes([0, 1, 128, 5, 0xFF, 0xFF])),
-        ("tiny.bin", "identity", "revision=0a.05", None),
+        ("tiny.bin", "identity", "revision=0b.05", bytes([0, 1, 129, 5, 0x41, 0x31])),
+        ("tiny.bin", "identity", "revision=0[.05", None),
         ("tiny.bin", "identity", "revision=100.00", None),
         ("tiny.bin", "identity", "revision=01.100", None),
         ("tiny.bin", "identity", "revision=1", None),
@@ -306,7 +307,7 @@ def test_string_where_the_pool_ends_in_bytes_of_no_string(tmp_path: Path) -> Non
     path.write_bytes(tiny([serial(1), identity(0, 1), pool("A", "BB", rest=b"zz")]))
     result = run("set", path, "serial", "NEW")
     assert result.status == REFUSED
-    assert "the pool ends in bytes of no string" in result.said
+    assert "the pool ends in 2 bytes of no string" in result.said
     assert path.read_bytes() == tiny([serial(1), identity(0, 1), pool("A", "BB", rest=b"zz")])
 
 
