@@ -321,7 +321,8 @@ def test_hostile_file_names(name: bytes, tmp_path: Path) -> None:
     assert shown.escaped(name) in answer["file"] or name.decode("utf-8", "replace") in answer["file"]
     with open(path, "wb") as file:
         file.write(sample("onie.bin")[:100])
-    assert shown.escaped(name) in run("check", path).said
+    said = run("check", path).said
+    assert shown.escaped(name) in said or (shown.printable(name) and name.decode() in said)
     run("check", path + b"/x")
     run("write", path, path)
     run("write", "-j", path, path)

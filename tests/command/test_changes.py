@@ -10,7 +10,6 @@ from typing import Callable, Optional
 import pytest
 
 import formats as f
-import shown
 from running import (
     BLANK,
     DONE,
@@ -131,25 +130,33 @@ def refused(path: Path, number: int, place: Optional[int], *words: Word) -> Resu
     return said
 
 
+def other_value(entry: f.Entry) -> bytes:
+    """Another value of the same length that keeps the rule of the entry's code."""
+    if entry.reading in ("text", "pool"):
+        return b"D" + entry.value[1:] if entry.value[:1] != b"D" else b"E" + entry.value[1:]
+    if entry.reading == "date":
+        return b"19991231"
+    if entry.reading == "datetime":
+        return b"12/31/1999 23:59:59"
+    if entry.reading == "identity":
+        return entry.value[:3] + bytes([98 - entry.value[3] // 2]) + entry.value[4:]
+    return entry.value[:-1] + bytes([entry.value[-1] ^ 1])
+
+
 @pytest.mark.parametrize("name", NAMES)
 def test_set_every_entry_by_bytes(name: str, copy: Copy) -> None:
     fmt, data, image = format_of(name), sample(name), model(name)
     path = copy(name)
     for entry in image.entries:
-        value = bytes(reversed(entry.value)) if fmt == f.VPD else entry.value
-        if len(value) > 2 and shown.type_of(image, entry) == "text" and entry.code != 0x2C:
-            value = value[1:] + value[:1]
+        value = other_value(entry)
         path.write_bytes(data)
         try:
             wanted = f.edit(fmt, 4, data, entry.number, value)
         except f.Refused as refusal:
+            assert refusal.number == 14
             refused(path, refusal.number, refusal.place, "set", "-x", f"#{entry.number}", value.hex())
             continue
-        if wanted == data:
-            result = run("set", "-x", path, f"#{entry.number}", value.hex())
-            assert result.status == DONE
-            assert path.read_bytes() == data
-            continue
+        assert wanted != data
         both(path, wanted, "set", "-x", f"#{entry.number}", value.hex())
 
 
@@ -277,20 +284,20 @@ def test_set_refusals(copy: Copy) -> None:
     refused(path, 12, None, "set", "product", "x" * 255, "-e", "3", "-l", "210")
 
 
-@pytest.mark.parametrize("name", NAMES)
+@pytest.mark.parametrize("name", [name for name in NAMES if name != "frames.vpd"])
 def test_a_change_that_changes_nothing(name: str, copy: Copy) -> None:
+    """All samples but frames.vpd, which ends with FFh, are what an edit to the same value makes."""
     path = copy(name)
     for entry in model(name).entries:
         if entry.kind == 0:
             continue
-        wanted = f.edit(format_of(name), 4, sample(name), entry.number, entry.value)
-        if wanted != sample(name):
-            continue
+        assert f.edit(format_of(name), 4, sample(name), entry.number, entry.value) == sample(name)
         before = path.stat()
         kinds: list[list[str]] = [[], ["-i"], ["-n"]]
         for more in kinds:
             result = run("set", "-x", *more, path, f"#{entry.number}", entry.value.hex())
             assert result.status == DONE
+            assert f"entry {entry.number}" in result.text
             after = path.stat()
             assert (before.st_mtime_ns, before.st_ino) == (after.st_mtime_ns, after.st_ino)
             assert path.read_bytes() == sample(name)

@@ -214,11 +214,51 @@ def test_thirteen_fifteen_sixteen() -> None:
     assert "refused 16" in said
 
 
-def test_every_number_that_can_be_given() -> None:
-    """The cases here, with those of vendor payloads, room files and changes, have all of 1 to 23."""
-    here = {case.number for case in CASES}
-    elsewhere = {2, 12, 13, 14, 15, 17, 18, 19, 20, 21, 22, 23}
-    assert here | elsewhere == set(range(1, 24))
+def onie_payload(payload: bytes) -> bytes:
+    """An ONIE image with these bytes as an amplifier's payload."""
+    return onie(f.Field(0xFD, f.PREFIX + payload))
+
+
+PAYLOAD = f.vendor_payload(b"S", [0] * 8)
+OTHER_BLOCK = PAYLOAD[:4] + b"\1" + PAYLOAD[5:-4]
+EVERY: dict[int, tuple[list[Word], bytes]] = {
+    1: (["list", "-e", "5"], FB),
+    2: (["list"], FB + b"\xff" * 65536),
+    3: (["list"], with_byte(FB, 3, 0)),
+    4: (["list"], with_byte(TI, 1, 3)),
+    5: (["list"], ON[:100]),
+    6: (["list"], with_byte(FB, 4, 0)),
+    7: (["list"], onie(f.Field(0x2C, b"cz"))),
+    8: (["list"], tiny("1000", "1000")),
+    9: (["list"], tiny("0100", "1000")),
+    10: (["list"], with_byte(TI, 73, 0)),
+    11: (["list"], fboss(fields=FBOSS_FIELDS[:4])),
+    12: (["set", "-n", "SKU", "x" * 40], sample("sku.vpd")),
+    13: (["get", "#1"], sample("sku.vpd")),
+    14: (["remove", "-n", "#5"], ON),
+    15: (["strings"], tiny("1000")),
+    16: (["strings"], ON),
+    17: (["vendor"], onie(f.Field(0x21, b""))),
+    18: (["vendor"], onie_payload(PAYLOAD + b"\0")),
+    19: (["vendor"], onie_payload(PAYLOAD[:-1] + bytes([PAYLOAD[-1] ^ 1]))),
+    20: (["vendor"], onie_payload(OTHER_BLOCK + f.crc32(OTHER_BLOCK).to_bytes(4, "big"))),
+    21: (["room", "list"], b"RM\x01\0\0\1\0\0"),
+    22: (["room", "remove", "-n", "18"], sample("room.bin")),
+    23: (["room", "add", "-n", "17", SAMPLES / "sku.vpd"], sample("room.bin")),
+}
+
+
+@pytest.mark.parametrize("number", range(1, 24))
+def test_every_number(number: int) -> None:
+    words, data = EVERY[number]
+    at = 2 if words[0] == "room" else 1
+    line = [*words[:at], "-", *words[at:]]
+    result = run(*line, stdin=data)
+    assert (result.status, result.out) == (REFUSED, b"")
+    assert f"(refused {number})" in result.said
+    by_json = run(*line, "-j", stdin=data)
+    assert by_json.error["number"] == number
+    assert by_json.err == result.err
 
 
 def test_the_message_is_the_same_in_json() -> None:

@@ -150,12 +150,13 @@ def test_version(line: list[str], word: str) -> None:
 
 
 def test_help_comes_first() -> None:
-    assert run("list", "--help", "/no/such/file").status == DONE
-    assert run("set", "-h").status == DONE
+    assert run("list", "--help", "/no/such/file").out == run("help", "list").out != b""
+    assert run("set", "-h").out == run("help", "set").out != b""
 
 
 def test_options_anywhere() -> None:
     wanted = run("get", "-f", "onie", "-e", "3", "-x", ONIE, "serial").out
+    assert wanted == b"LAB-000471".hex().encode() + b"\n"
     lines: list[list[Word]] = [
         ["-f", "onie", "-e", "3", "-x", "get", ONIE, "serial"],
         ["get", ONIE, "serial", "-f", "onie", "-e", "3", "-x"],
@@ -180,9 +181,12 @@ def test_two_dashes_end_the_options(tmp_path: Path) -> None:
 def test_the_last_option_counts(name: str) -> None:
     first = run("check", "-e", "9", "-e", "4", SAMPLES / name)
     assert (first.status, first.out) == (DONE, run("check", SAMPLES / name).out)
+    assert "edition 4" in first.text
+    assert run("check", "-e", "4", "-e", "9", SAMPLES / name).status != DONE
 
 
 def test_locale_and_environment_do_not_matter() -> None:
     wanted = run("list", ONIE).out
+    assert b"LAB-000471" in wanted
     for env in ({"LC_ALL": "de_DE.UTF-8"}, {"LC_ALL": "C"}, {"POSIXLY_CORRECT": "1"}, {"TERM": "dumb"}, {"COLUMNS": "20"}):
         assert run("list", ONIE, env=env).out == wanted, env

@@ -213,6 +213,9 @@ def test_no_room_for_a_longer_payload(copy: Copy) -> None:
     assert f.vendor_read(f.ONIE, 4, path.read_bytes()).serial == b"s" * 200
 
 
-def test_a_dry_run_of_nothing() -> None:
-    result = run("vendor", "-n", SAMPLES / "amplifier.bin", "c-band-west-in=2.4")
-    assert result.status == DONE
+def test_a_change_to_the_same_payload(copy: Copy) -> None:
+    path = copy("amplifier.bin")
+    before = path.stat()
+    result = run("vendor", "-j", path, "c-band-west-in=2.4", "serial=DQ000MPW")
+    assert (result.status, result.json["changes"]) == (DONE, [])
+    assert (path.stat().st_mtime_ns, path.stat().st_ino) == (before.st_mtime_ns, before.st_ino)
