@@ -86,7 +86,8 @@ def test_list_of_an_edition(edition: int) -> None:
         f.room_read(edition, sample("room.bin"))
     except f.Refused as refusal:
         assert result.status == REFUSED
-        assert (result.error["number"], result.error["place"]) == (refusal.number, refusal.place)
+        assert result.error["number"] == refusal.number
+        assert result.error["place"] == (None if refusal.number == 1 else refusal.place)
     else:
         assert result.status == DONE
 
@@ -212,7 +213,7 @@ def test_body_without_a_format(copy: Copy, tmp_path: Path) -> None:
     assert path.read_bytes() == f.room_write(rows() + [(18, f.VPD, b"\xff" * 20)])
 
 
-@pytest.mark.parametrize("place, byte", [(0, 0x53), (1, 0), (2, 2), (3, 1), (5, 6), (6, 1), (7, 1), (11, 0xFF), (13, 1), (15, 8)])
+@pytest.mark.parametrize("place, byte", [(0, 0x53), (1, 0), (2, 2), (3, 1), (5, 6), (6, 1), (7, 1), (16, 0xFF), (13, 1), (15, 8)])
 def test_wrong_heads_and_contents(place: int, byte: int, tmp_path: Path) -> None:
     data = bytearray(sample("room.bin"))
     data[place] = byte

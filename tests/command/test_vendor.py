@@ -116,7 +116,7 @@ def test_every_offset(k: int) -> None:
         assert run("vendor", "-", f"{name}={word}", stdin=data, raw=True).out == wanted, word
 
 
-@pytest.mark.parametrize("word", ["12.8", "-12.9", "100", "1.23", "x", "", "1.", "--1", "1e1", "0x1", "1 ", "1,5", "nan", "inf", "99999999999999999999"])
+@pytest.mark.parametrize("word", ["12.8", "-12.9", "100", "1.23", "x", "", "1.", "--1", "1e1", "0x1", "1 2", "1,5", "nan", "inf", "99999999999999999999"])
 def test_offsets_that_are_none(word: str, copy: Copy) -> None:
     path = copy("amplifier.bin")
     result = run("vendor", path, f"c-band-west-in={word}")
