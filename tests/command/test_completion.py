@@ -5,11 +5,13 @@ from __future__ import annotations
 import os
 import shutil
 import subprocess
+import time
 from pathlib import Path
 
 import pytest
 
 from running import COMMAND, ROOT, SAMPLES, run
+from test_terminal import Terminal
 
 COMPLETION = ROOT / "completions/boardid"
 SCRIPT = r"""
@@ -106,6 +108,32 @@ def test_nothing_is_run_from_an_image(tmp_path: Path) -> None:
     completed("get", "bad.vpd", "", folder=tmp_path)
     completed("get", "bad.vpd", "$", folder=tmp_path)
     assert os.listdir(tmp_path) == ["bad.vpd"]
+
+
+def test_typed_in_a_shell() -> None:
+    """Tabs in a bash of a terminal: a command, a file and a name with blanks."""
+    if not COMPLETION.exists():
+        pytest.skip("completions/boardid is not there")
+    if shutil.which("tmux") is None or shutil.which("bash") is None:
+        pytest.skip("tmux or bash is not there")
+    terminal = Terminal(f"boardid-tabs-{os.getpid()}")
+    shell = f"env PS1='$ ' PATH='{COMMAND.parent}:/usr/bin:/bin' bash --norc --noprofile"
+    terminal.tmux("new-session", "-d", "-x", "160", "-y", "50", "-c", str(SAMPLES), shell)
+    try:
+        terminal.say(f". {COMPLETION}")
+        terminal.tmux("send-keys", "-l", "clear")
+        terminal.tmux("send-keys", "Enter")
+        terminal.tmux("send-keys", "-l", "boardid ge\ton\tSerial\t")
+        time.sleep(1)
+        terminal.tmux("send-keys", "-l", "; echo status $?")
+        terminal.tmux("send-keys", "Enter")
+        time.sleep(0.5)
+        lines = terminal.screen().splitlines()
+        typed = next(line for line in lines if "boardid get onie.bin " in line)
+        assert "Serial" in typed and "Number" in typed, lines
+        assert "LAB-000471" in lines and "status 0" in lines, lines
+    finally:
+        terminal.tmux("kill-session")
 
 
 def test_files_that_are_none(tmp_path: Path) -> None:

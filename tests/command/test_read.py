@@ -256,6 +256,12 @@ def test_strings() -> None:
     assert answer["rest"] == ""
 
 
+def test_places_of_strings_count_the_offset() -> None:
+    first = run("strings", "-j", SAMPLES / "tiny.bin").json["strings"]
+    second = run("strings", "-j", "-o", "3", "-", stdin=b"abc" + sample("tiny.bin")).json["strings"]
+    assert second == [string | {"place": string["place"] + 3} for string in first]
+
+
 def test_strings_with_a_rest() -> None:
     image = f.write(f.TINY, 4, [f.Field(0x01, b"AB\xc3DE")], 30)
     answer = run("strings", "-j", "-", stdin=image).json
@@ -348,7 +354,9 @@ def test_offset_and_length(name: str, tmp_path: Path) -> None:
     for offset in ("7", "0x7", "0x07"):
         answer = run("list", "-j", "-o", offset, "-l", len(data), path).json
         assert (answer["offset"], answer["room"], answer["length"]) == (7, len(data), wanted["length"])
-        assert [e["bytes"] for e in answer["entries"]] == [e["bytes"] for e in wanted["entries"]]
+        for entry, before in zip(answer["entries"], wanted["entries"]):
+            places = {"place": before["place"] + 7, "value_place": before["value_place"] + 7}
+            assert entry == before | places
     answer = run("check", "-j", f"--offset={7}", path).json
     assert answer["room"] == len(data) + 5
 
