@@ -1,0 +1,222 @@
+"""An image as people and other programs read it: a table, and the JSON object of `boardid list`."""
+
+from __future__ import annotations
+
+import datetime
+from typing import Any, Dict, Iterable, List, Optional, Tuple
+
+from .encode import pool_parts
+from .records import Entry
+from .formats import Format, Tiny, Vpd
+from .values import AddressBlock, Flags, Identity, String
+
+#: How much of a value the table shows.
+TEXT_MAX = 256
+BYTES_MAX = 32
+
+
+def printable(data: bytes) -> bool:
+    """Whether bytes are printable ASCII."""
+    return all(0x20 <= byte <= 0x7E for byte in data)
+
+
+def escaped(text: str) -> str:
+    """A text that may go to a terminal: bytes outside 20h to 7Eh as \\x1b, a backslash as \\\\."""
+    parts: List[str] = []
+    for byte in text.encode("utf-8", "surrogateescape"):
+        if byte == 0x5C:
+            parts.append("\\\\")
+        elif 0x20 <= byte <= 0x7E:
+            parts.append(chr(byte))
+        else:
+            parts.append(f"\\x{byte:02x}")
+    return "".join(parts)
+
+
+def escaped_bytes(data: bytes) -> str:
+    """Bytes that may go to a terminal, as `escaped` gives a text."""
+    return escaped(data.decode("ascii", "surrogateescape"))
+
+
+def _is_pool(entry: Entry) -> bool:
+    return entry.kind == Format.TINY * 256 + Tiny.ASCII_STRINGS
+
+
+def _is_vpd_text(entry: Entry) -> bool:
+    return entry.kind == Format.VPD * 256 + Vpd.STRING and printable(entry.raw)
+
+
+def _identity_object(identity: Identity) -> Dict[str, Any]:
+    made: Dict[str, Any] = {
+        "serial": identity.serial.text,
+        "serial_string": identity.serial.number,
+        "part": identity.part.text,
+        "part_string": identity.part.number,
+        "revision": identity.revision,
+        "free": identity.free.hex(),
+    }
+    if identity.batch is not None:
+        made["batch"] = identity.batch
+    return made
+
+
+def _typed(entry: Entry) -> Dict[str, Any]:
+    """Type and value of an entry as in JSON, with what stands beside the value."""
+    value = entry.value
+    if isinstance(value, str):
+        return {"type": "text", "value": value}
+    if isinstance(value, int):
+        return {"type": "number", "value": value}
+    if isinstance(value, AddressBlock):
+        return {"type": "address", "value": value.address, "count": value.count}
+    if isinstance(value, String):
+        return {"type": "string", "value": value.text, "string_number": value.number}
+    if isinstance(value, Flags):
+        return {"type": "flags", "value": list(value.words), "flags": value.number}
+    if isinstance(value, Identity):
+        return {"type": "identity", "value": _identity_object(value)}
+    if isinstance(value, datetime.datetime):
+        return {"type": "datetime", "value": value.isoformat(timespec="seconds")}
+    if isinstance(value, datetime.date):
+        return {"type": "date", "value": value.isoformat()}
+    if _is_pool(entry):
+        strings, rest = pool_parts(entry.raw)
+        made: Dict[str, Any] = {"type": "pool", "value": strings}
+        if rest:
+            made["rest"] = rest.hex()
+        return made
+    if _is_vpd_text(entry):
+        return {"type": "text", "value": entry.raw.decode("ascii")}
+    return {"type": "bytes", "value": entry.raw.hex()}
+
+
+def entry_object(entry: Entry) -> Dict[str, Any]:
+    """An entry as JSON has it."""
+    made: Dict[str, Any] = {
+        "number": entry.number,
+        "code": entry.code,
+        "kind": entry.kind,
+        "name": entry.name,
+        "short": list(entry.short),
+    }
+    if entry.key is not None:
+        made["key"] = entry.key.decode("ascii") if printable(entry.key) else None
+        made["key_bytes"] = entry.key.hex()
+    made["place"] = entry.place
+    made["frame_length"] = entry.frame_length
+    made["value_place"] = entry.value_place
+    made["value_length"] = entry.value_length
+    made.update(_typed(entry))
+    made["bytes"] = entry.raw.hex()
+    return made
+
+
+def list_object(
+    file: Optional[str],
+    format: Format,
+    edition: int,
+    offset: int,
+    length: int,
+    room: int,
+    listed: Iterable[Entry],
+) -> Dict[str, Any]:
+    """A listing as JSON has it."""
+    return {
+        "file": file,
+        "format": format.word,
+        "edition": edition,
+        "offset": offset,
+        "length": length,
+        "room": room,
+        "entries": [entry_object(entry) for entry in listed],
+    }
+
+
+def _string_words(string: String) -> str:
+    if string.text is None:
+        return f"string {string.number}, which the pool does not have"
+    return escaped(string.text)
+
+
+def _quoted(string: String) -> str:
+    return f'"{escaped(string.text)}"' if string.text is not None else _string_words(string)
+
+
+def _cut(text: str, length: int) -> str:
+    return text if length <= TEXT_MAX else text[:TEXT_MAX] + f" .. ({length} bytes)"
+
+
+def value_words(entry: Entry) -> str:
+    """The value of an entry as the table has it. None of its characters needs escaping."""
+    value = entry.value
+    if isinstance(value, str):
+        return _cut(escaped(value), len(entry.raw))
+    if isinstance(value, int):
+        return str(value)
+    if isinstance(value, AddressBlock):
+        if entry.format != Format.FBOSS:
+            return value.address
+        return f"{value.address}, {value.count} {'address' if value.count == 1 else 'addresses'}"
+    if isinstance(value, String):
+        return _string_words(value)
+    if isinstance(value, Flags):
+        words = list(value.words) + ([f"0x{value.reserved:02x}"] if value.reserved else [])
+        return f"{value.passed} of 4" + (": " + ", ".join(words) if words else "")
+    if isinstance(value, Identity):
+        batch = "" if value.batch is None else f", batch {value.batch:04}"
+        return (
+            f"serial {_quoted(value.serial)}, part {_quoted(value.part)}, "
+            f"revision {value.revision}, free {value.free.hex(':')}{batch}"
+        )
+    if isinstance(value, datetime.datetime):
+        return value.isoformat(" ", "seconds")
+    if isinstance(value, datetime.date):
+        return value.isoformat()
+    if _is_pool(entry):
+        strings, rest = pool_parts(entry.raw)
+        words_of_pool = ", ".join(f'"{escaped(text)}"' for text in strings) or "no strings"
+        return words_of_pool + (f"; {len(rest)} bytes of no string" if rest else "")
+    if _is_vpd_text(entry):
+        text = entry.raw.decode("ascii")
+        return _cut(escaped(text), len(entry.raw))
+    shown = entry.raw[:BYTES_MAX].hex(" ")
+    return shown if len(entry.raw) <= BYTES_MAX else f"{shown} .. ({len(entry.raw)} bytes)"
+
+
+def name_words(entry: Entry) -> str:
+    """What an entry is called in the table: its name, or its code; in VPD also its key."""
+    if entry.name is not None:
+        name = entry.name
+    elif entry.format == Format.FBOSS:
+        name = f"code {entry.code}"
+    elif entry.kind != 0:
+        name = ""
+    else:
+        name = f"{ {Format.TINY: 'tag', Format.ONIE: 'code'}.get(entry.format, 'type')} {entry.code:02X}h"
+    if entry.key is None:
+        return name
+    key = escaped_bytes(entry.key)
+    return f"{name} {key}".strip()
+
+
+def table(
+    file: Optional[str],
+    format: Format,
+    edition: int,
+    length: int,
+    room: int,
+    listed: Iterable[Entry],
+) -> str:
+    """A listing as people read it: a line for the image, and one for each entry."""
+    lines: List[Tuple[str, str, str]] = [
+        (f"#{entry.number}", name_words(entry), value_words(entry)) for entry in listed
+    ]
+    count = f"{len(lines)} {'entry' if len(lines) == 1 else 'entries'}"
+    name = f"{escaped(file)}: " if file is not None else ""
+    head = f"{name}{format.title}, edition {edition}, {count}, {length} of {room} bytes"
+    widths = [max((len(line[k]) for line in lines), default=0) for k in range(2)]
+    widths[1] = min(widths[1], 40)
+    rows = [
+        f"{number:>{widths[0]}}  {what:<{widths[1]}}  {value}".rstrip() for number, what, value in lines
+    ]
+    return "\n".join([head] + rows)
