@@ -17,7 +17,7 @@ from .calls import entries as list_entries
 from .errors import Blank, Refused
 from .formats import Format
 from .library import EDITION, IMAGE_MAX, load
-from .listing import escaped, list_object, table
+from .listing import escaped, json_file, list_object, table
 
 DONE, REFUSED, USAGE, FILE, BLANK = range(5)
 
@@ -43,7 +43,7 @@ class _Failed(Exception):
         self.number = number
         self.place = place
 
-    def object(self, file: str) -> Dict[str, Any]:
+    def object(self, file: Optional[str]) -> Dict[str, Any]:
         """The object of --json."""
         error = {
             "status": self.status,
@@ -117,7 +117,8 @@ def _read(file: str) -> bytes:
         with open(file, "rb") as opened:
             return opened.read(READ_MAX + 1)
     except OSError as error:
-        raise _Failed(FILE, error.strerror or str(error)) from None
+        folder = isinstance(error, IsADirectoryError)
+        raise _Failed(FILE, "is a folder" if folder else error.strerror or str(error)) from None
     except ValueError as error:
         raise _Failed(FILE, str(error)) from None
 
@@ -125,14 +126,13 @@ def _read(file: str) -> bytes:
 def _list(options: argparse.Namespace) -> str:
     """The listing that the options ask for."""
     whole = _read(options.file)
-    if not whole:
-        raise _Failed(FILE, "the file is empty")
     end = len(whole) if options.length is None else options.offset + options.length
     if options.offset > len(whole) or end > len(whole):
-        raise _Failed(FILE, f"the file has {len(whole)} bytes")
+        many = f"more than {READ_MAX}" if len(whole) > READ_MAX else str(len(whole))
+        raise _Failed(FILE, f"the image's room is past the end: the file has {many} bytes")
     data = whole[options.offset : end]
     if not data:
-        raise _Failed(FILE, "the image's room is empty")
+        raise _Failed(FILE, "is empty: the image's room has no bytes" if whole else "is empty")
     try:
         load()
         format = detect(data, edition=options.edition) if options.format is None else options.format
@@ -142,7 +142,7 @@ def _list(options: argparse.Namespace) -> str:
     except Blank as blank:
         raise _Failed(BLANK, str(blank), "boardid write makes an image") from None
     except Refused as refused:
-        if is_blank(data):
+        if refused.number not in (1, 16) and is_blank(data):
             raise _Failed(BLANK, str(Blank(data[0], len(data))), "boardid write makes an image") from None
         raise _refusal(refused, data, options.offset) from None
     length = image_length(format, listed)
@@ -160,7 +160,7 @@ def _refusal(refused: Refused, data: bytes, offset: int) -> _Failed:
     if refused.number == 2 and len(data) > IMAGE_MAX:
         hint = f"--length {IMAGE_MAX}"
     elif data[:2] == b"RM" and refused.note:
-        hint = "the file may be a room file: boardid room list"
+        hint = "it begins like a room file: boardid room list"
     elif refused.number == 10:
         hint = "damaged or half written: read the chip again"
     place = refused.place + offset
@@ -176,7 +176,7 @@ def main(arguments: Optional[List[str]] = None) -> int:
         text = _list(options)
     except _Failed as failed:
         status = failed.status
-        text = json.dumps(failed.object(options.file), indent=2) if options.json else ""
+        text = json.dumps(failed.object(json_file(options.file)), indent=2) if options.json else ""
         print(f"boardid: {escaped(options.file)}: {escaped(failed.message)}", file=sys.stderr)
         if failed.hint is not None:
             print(f"  {failed.hint}", file=sys.stderr)

@@ -42,9 +42,9 @@ def detect(image: Bytes, *, edition: int = EDITION) -> Format:
     try:
         call("boardid_check", Format.VPD, word(edition, "an edition"), data, len(data))
     except Refused as refused:
-        if refused.number == 1:
+        if refused.number <= 2 or data[:1] in (b"\x01", b"\xfe"):
             raise
-        note = "the image begins like no format, and is no VPD 2.0"
+        note = f"it begins like no format ({data[:8].hex(' ')}); as VPD 2.0" if data else ""
         raise Refused(refused.number, refused.place, note) from None
     return Format.VPD
 

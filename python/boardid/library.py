@@ -75,14 +75,14 @@ def _open() -> Dict[str, Any]:
             if named
             else "install the package libboardid1, or let BOARDID_LIBRARY name the file"
         )
-        raise OSError(f"boardid: the shared library {path} cannot be loaded ({error}); {hint}") from None
+        raise OSError(f"the shared library {path} cannot be loaded ({error}); {hint}") from None
     functions: Dict[str, Any] = {}
     for name, arguments in SIGNATURES.items():
         try:
             function = getattr(library, name)
         except AttributeError:
             raise OSError(
-                f"boardid: the shared library {path} has no {name}; this module needs version 4.2 or later"
+                f"the shared library {path} has no {name}; this module needs version 4.2 or later"
             ) from None
         function.argtypes = arguments
         function.restype = ctypes.c_uint64

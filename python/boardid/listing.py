@@ -3,7 +3,7 @@
 from __future__ import annotations
 
 import datetime
-from typing import Any, Dict, Iterable, List, Optional, Tuple
+from typing import Any, Dict, Iterable, List, Optional
 
 from .encode import pool_parts
 from .records import Entry
@@ -13,6 +13,9 @@ from .values import AddressBlock, Flags, Identity, String
 #: How much of a value the table shows.
 TEXT_MAX = 256
 BYTES_MAX = 32
+
+#: The longest name that makes the table's column wider.
+NAME_MAX = 40
 
 
 def printable(data: bytes) -> bool:
@@ -38,6 +41,20 @@ def escaped_bytes(data: bytes) -> str:
     return escaped(data.decode("ascii", "surrogateescape"))
 
 
+def json_file(file: Optional[str]) -> Optional[str]:
+    """The name of a file as JSON has it: a byte that is no character goes as \\xff, in letters."""
+    if file is None:
+        return None
+    return "".join(
+        f"\\x{ord(one) - 0xDC00:02x}" if 0xDC80 <= ord(one) <= 0xDCFF else one for one in file
+    )
+
+
+def _json_text(text: Optional[str]) -> Optional[str]:
+    """A string of the pool as JSON has it: null where there is none, or where it is not printable."""
+    return text if text is not None and printable(text.encode("ascii")) else None
+
+
 def _is_pool(entry: Entry) -> bool:
     return entry.kind == Format.TINY * 256 + Tiny.ASCII_STRINGS
 
@@ -48,9 +65,9 @@ def _is_vpd_text(entry: Entry) -> bool:
 
 def _identity_object(identity: Identity) -> Dict[str, Any]:
     made: Dict[str, Any] = {
-        "serial": identity.serial.text,
+        "serial": _json_text(identity.serial.text),
         "serial_string": identity.serial.number,
-        "part": identity.part.text,
+        "part": _json_text(identity.part.text),
         "part_string": identity.part.number,
         "revision": identity.revision,
         "free": identity.free.hex(),
@@ -70,7 +87,7 @@ def _typed(entry: Entry) -> Dict[str, Any]:
     if isinstance(value, AddressBlock):
         return {"type": "address", "value": value.address, "count": value.count}
     if isinstance(value, String):
-        return {"type": "string", "value": value.text, "string_number": value.number}
+        return {"type": "string", "value": _json_text(value.text), "string_number": value.number}
     if isinstance(value, Flags):
         return {"type": "flags", "value": list(value.words), "flags": value.number}
     if isinstance(value, Identity):
@@ -81,7 +98,8 @@ def _typed(entry: Entry) -> Dict[str, Any]:
         return {"type": "date", "value": value.isoformat()}
     if _is_pool(entry):
         strings, rest = pool_parts(entry.raw)
-        made: Dict[str, Any] = {"type": "pool", "value": strings}
+        texts = [_json_text(text) for text in strings]
+        made: Dict[str, Any] = {"type": "pool", "value": None if None in texts else texts}
         if rest:
             made["rest"] = rest.hex()
         return made
@@ -90,8 +108,8 @@ def _typed(entry: Entry) -> Dict[str, Any]:
     return {"type": "bytes", "value": entry.raw.hex()}
 
 
-def entry_object(entry: Entry) -> Dict[str, Any]:
-    """An entry as JSON has it."""
+def entry_object(entry: Entry, offset: int = 0) -> Dict[str, Any]:
+    """An entry as JSON has it. Its places count bytes of the file, where the image is at `offset`."""
     made: Dict[str, Any] = {
         "number": entry.number,
         "code": entry.code,
@@ -102,9 +120,9 @@ def entry_object(entry: Entry) -> Dict[str, Any]:
     if entry.key is not None:
         made["key"] = entry.key.decode("ascii") if printable(entry.key) else None
         made["key_bytes"] = entry.key.hex()
-    made["place"] = entry.place
+    made["place"] = offset + entry.place
     made["frame_length"] = entry.frame_length
-    made["value_place"] = entry.value_place
+    made["value_place"] = offset + entry.value_place
     made["value_length"] = entry.value_length
     made.update(_typed(entry))
     made["bytes"] = entry.raw.hex()
@@ -122,13 +140,13 @@ def list_object(
 ) -> Dict[str, Any]:
     """A listing as JSON has it."""
     return {
-        "file": file,
+        "file": json_file(file),
         "format": format.word,
         "edition": edition,
         "offset": offset,
         "length": length,
         "room": room,
-        "entries": [entry_object(entry) for entry in listed],
+        "entries": [entry_object(entry, offset) for entry in listed],
     }
 
 
@@ -138,19 +156,24 @@ def _string_words(string: String) -> str:
     return escaped(string.text)
 
 
+def _in_quotes(text: str) -> str:
+    return '"' + '\\"'.join(escaped(part) for part in text.split('"')) + '"'
+
+
 def _quoted(string: String) -> str:
-    return f'"{escaped(string.text)}"' if string.text is not None else _string_words(string)
+    return _in_quotes(string.text) if string.text is not None else _string_words(string)
 
 
-def _cut(text: str, length: int) -> str:
-    return text if length <= TEXT_MAX else text[:TEXT_MAX] + f" .. ({length} bytes)"
+def _cut(text: str) -> str:
+    """A text, or the front of a long one."""
+    return escaped(text) if len(text) <= TEXT_MAX else f"{escaped(text[:TEXT_MAX])} .. ({len(text)} bytes)"
 
 
 def value_words(entry: Entry) -> str:
     """The value of an entry as the table has it. None of its characters needs escaping."""
     value = entry.value
     if isinstance(value, str):
-        return _cut(escaped(value), len(entry.raw))
+        return _cut(value)
     if isinstance(value, int):
         return str(value)
     if isinstance(value, AddressBlock):
@@ -160,8 +183,7 @@ def value_words(entry: Entry) -> str:
     if isinstance(value, String):
         return _string_words(value)
     if isinstance(value, Flags):
-        words = list(value.words) + ([f"0x{value.reserved:02x}"] if value.reserved else [])
-        return f"{value.passed} of 4" + (": " + ", ".join(words) if words else "")
+        return f"{value.passed} of 4: " + ", ".join(str(value).split(","))
     if isinstance(value, Identity):
         batch = "" if value.batch is None else f", batch {value.batch:04}"
         return (
@@ -174,12 +196,11 @@ def value_words(entry: Entry) -> str:
         return value.isoformat()
     if _is_pool(entry):
         strings, rest = pool_parts(entry.raw)
-        words_of_pool = ", ".join(f'"{escaped(text)}"' for text in strings) or "no strings"
+        words_of_pool = ", ".join(_in_quotes(text) for text in strings) or "no strings"
         return words_of_pool + (f"; {len(rest)} bytes of no string" if rest else "")
     if _is_vpd_text(entry):
-        text = entry.raw.decode("ascii")
-        return _cut(escaped(text), len(entry.raw))
-    shown = entry.raw[:BYTES_MAX].hex(" ")
+        return _cut(entry.raw.decode("ascii"))
+    shown = entry.raw[:BYTES_MAX].hex(" ") or "no bytes"
     return shown if len(entry.raw) <= BYTES_MAX else f"{shown} .. ({len(entry.raw)} bytes)"
 
 
@@ -187,16 +208,20 @@ def name_words(entry: Entry) -> str:
     """What an entry is called in the table: its name, or its code; in VPD also its key."""
     if entry.name is not None:
         name = entry.name
-    elif entry.format == Format.FBOSS:
-        name = f"code {entry.code}"
     elif entry.kind != 0:
         name = ""
+    elif entry.format == Format.FBOSS:
+        name = f"code {entry.code}"
     else:
-        name = f"{ {Format.TINY: 'tag', Format.ONIE: 'code'}.get(entry.format, 'type')} {entry.code:02X}h"
+        word = {Format.TINY: "tag", Format.VPD: "type"}.get(entry.format, "code")
+        name = f"{word} {entry.code:02X}h"
     if entry.key is None:
         return name
-    key = escaped_bytes(entry.key)
-    return f"{name} {key}".strip()
+    return f"{name} {escaped_bytes(entry.key)}".strip()
+
+
+def _code_words(entry: Entry) -> str:
+    return f"{entry.code:4}" if entry.format == Format.FBOSS else f"0x{entry.code:02x}"
 
 
 def table(
@@ -208,15 +233,15 @@ def table(
     listed: Iterable[Entry],
 ) -> str:
     """A listing as people read it: a line for the image, and one for each entry."""
-    lines: List[Tuple[str, str, str]] = [
-        (f"#{entry.number}", name_words(entry), value_words(entry)) for entry in listed
-    ]
-    count = f"{len(lines)} {'entry' if len(lines) == 1 else 'entries'}"
+    shown = list(listed)
+    count = f"{len(shown)} {'entry' if len(shown) == 1 else 'entries'}"
     name = f"{escaped(file)}: " if file is not None else ""
-    head = f"{name}{format.title}, edition {edition}, {count}, {length} of {room} bytes"
-    widths = [max((len(line[k]) for line in lines), default=0) for k in range(2)]
-    widths[1] = min(widths[1], 40)
-    rows = [
-        f"{number:>{widths[0]}}  {what:<{widths[1]}}  {value}".rstrip() for number, what, value in lines
-    ]
-    return "\n".join([head] + rows)
+    lines = [f"{name}{format.title}, edition {edition}, {count}, {length} of {room} bytes"]
+    names = [name_words(entry) for entry in shown]
+    widest = max([4] + [len(one) for one in names if len(one) <= NAME_MAX])
+    if shown:
+        lines.append(f"entry  code  {'name':<{widest}}  value")
+    for entry, one in zip(shown, names):
+        number = f"#{entry.number}"
+        lines.append(f"{number:>5}  {_code_words(entry)}  {one:<{widest}}  {value_words(entry)}")
+    return "\n".join(lines)
