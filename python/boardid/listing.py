@@ -10,9 +10,10 @@ from .records import Entry
 from .formats import Format, Tiny, Vpd
 from .values import AddressBlock, Flags, Identity, String
 
-#: How much of a value the table shows.
+#: How much of a text, of plain bytes and of a key the table shows.
 TEXT_MAX = 256
 BYTES_MAX = 32
+KEY_MAX = 64
 
 #: The longest name that makes the table's column wider.
 NAME_MAX = 40
@@ -213,11 +214,13 @@ def name_words(entry: Entry) -> str:
     elif entry.format == Format.FBOSS:
         name = f"code {entry.code}"
     else:
-        word = {Format.TINY: "tag", Format.VPD: "type"}.get(entry.format, "code")
-        name = f"{word} {entry.code:02X}h"
+        name = f"{'type' if entry.format == Format.VPD else 'code'} {entry.code:02X}h"
     if entry.key is None:
         return name
-    return f"{name} {escaped_bytes(entry.key)}".strip()
+    key = escaped_bytes(entry.key[:KEY_MAX])
+    if len(entry.key) > KEY_MAX:
+        key += f" .. ({len(entry.key)} bytes)"
+    return " ".join(part for part in (name, key) if part)
 
 
 def _code_words(entry: Entry) -> str:
