@@ -88,11 +88,9 @@ def test_a_library_that_is_not_there(tmp_path: Path) -> None:
 
 
 def test_a_library_without_the_exports() -> None:
-    other = ctypes.util.find_library("c") if hasattr(ctypes, "util") else None
     path = next(
         line.split()[-1] for line in open("/proc/self/maps") if re.search(r"/libc\.so|/libc-", line)
     )
-    assert other is None or other
     ended = run("import boardid; boardid.load()", path)
     last = ended.stderr.splitlines()[-1]
     assert last == (
