@@ -15,9 +15,10 @@ from typing import Any, Dict, List, NoReturn, Optional
 from .calls import detect, image_length, is_blank
 from .calls import entries as list_entries
 from .errors import Blank, Refused
-from .formats import Format
+from .formats import Format, kinds
+from .frames import frame_at
 from .library import EDITION, IMAGE_MAX, load
-from .listing import escaped, json_file, list_object, table
+from .listing import escaped, json_file, list_object, printable, table
 
 DONE, REFUSED, USAGE, FILE, BLANK = range(5)
 
@@ -35,6 +36,8 @@ class _Failed(Exception):
         hint: Optional[str] = None,
         number: Optional[int] = None,
         place: Optional[int] = None,
+        entry: Optional[int] = None,
+        name: Optional[str] = None,
     ) -> None:
         super().__init__(message)
         self.status = status
@@ -42,6 +45,8 @@ class _Failed(Exception):
         self.hint = hint
         self.number = number
         self.place = place
+        self.entry = entry
+        self.name = name
 
     def object(self, file: Optional[str]) -> Dict[str, Any]:
         """The object of --json."""
@@ -49,8 +54,8 @@ class _Failed(Exception):
             "status": self.status,
             "number": self.number,
             "place": self.place,
-            "entry": None,
-            "name": None,
+            "entry": self.entry,
+            "name": self.name,
             "message": self.message,
             "hint": self.hint,
         }
@@ -133,9 +138,12 @@ def _list(options: argparse.Namespace) -> str:
     data = whole[options.offset : end]
     if not data:
         raise _Failed(FILE, "is empty: the image's room has no bytes" if whole else "is empty")
+    format: Optional[Format] = None
     try:
         load()
-        format = detect(data, edition=options.edition) if options.format is None else options.format
+        format = options.format
+        if format is None:
+            format = detect(data, edition=options.edition)
         listed = list_entries(data, format, edition=options.edition)
     except OSError as error:
         raise _Failed(FILE, str(error)) from None
@@ -144,7 +152,7 @@ def _list(options: argparse.Namespace) -> str:
     except Refused as refused:
         if refused.number not in (1, 16) and is_blank(data):
             raise _Failed(BLANK, str(Blank(data[0], len(data))), "boardid write makes an image") from None
-        raise _refusal(refused, data, options.offset) from None
+        raise _refusal(refused, data, format, options.edition, options.offset) from None
     length = image_length(format, listed)
     if options.json:
         made = list_object(
@@ -154,18 +162,35 @@ def _list(options: argparse.Namespace) -> str:
     return table(options.file, format, options.edition, length, len(data), listed)
 
 
-def _refusal(refused: Refused, data: bytes, offset: int) -> _Failed:
+def _refusal(
+    refused: Refused, data: bytes, format: Optional[Format], edition: int, offset: int
+) -> _Failed:
     """What is said of a refused image; the place counts bytes of the file."""
+    number = refused.number
     hint: Optional[str] = None
-    if refused.number == 2 and len(data) > IMAGE_MAX:
+    if number == 2 and len(data) > IMAGE_MAX:
         hint = f"--length {IMAGE_MAX}"
     elif data[:2] == b"RM" and refused.note:
         hint = "it begins like a room file: boardid room list"
-    elif refused.number == 10:
+    elif number == 10:
         hint = "damaged or half written: read the chip again"
+    if number in (1, 2, 11, 16):
+        return _Failed(REFUSED, f"{refused.text} (refused {number})", hint, number)
     place = refused.place + offset
-    message = f"at byte {place}: {refused.text} (refused {refused.number})"
-    return _Failed(REFUSED, message, hint, refused.number, place)
+    found = Format.VPD if format is None else format
+    frame = frame_at(data, found, refused.place) if 5 <= number <= 9 else None
+    if frame is None:
+        message = f"at byte {place}: {refused.text} (refused {number})"
+        return _Failed(REFUSED, message, hint, number, place)
+    known = [kind for kind in kinds(found, edition=edition) if kind.code == frame.code]
+    name: Optional[str] = None
+    if known and known[0].number != 0x201:
+        name = known[0].name
+    elif frame.key and printable(frame.key):
+        name = frame.key.decode("ascii")
+    said = f"entry {frame.number}, {name}" if name is not None else f"entry {frame.number}"
+    message = f"{said}, at byte {place}: {refused.text} (refused {number})"
+    return _Failed(REFUSED, message, hint, number, place, frame.number, name)
 
 
 def main(arguments: Optional[List[str]] = None) -> int:
@@ -179,7 +204,7 @@ def main(arguments: Optional[List[str]] = None) -> int:
         text = json.dumps(failed.object(json_file(options.file)), indent=2) if options.json else ""
         print(f"boardid: {escaped(options.file)}: {escaped(failed.message)}", file=sys.stderr)
         if failed.hint is not None:
-            print(f"  {failed.hint}", file=sys.stderr)
+            print(f"  hint: {failed.hint}", file=sys.stderr)
     try:
         if text:
             print(text)
