@@ -7,14 +7,14 @@ import random
 import subprocess
 import zlib
 from pathlib import Path
-from typing import Any, Tuple
+from typing import Any, Callable, Optional, Tuple, Union
 
 import pytest
 from conftest import ROOT, command, sample
 from test_main import run
 
 import boardid
-from boardid import Field, Format
+from boardid import Field, Format, Image
 
 COMMAND = command()
 
@@ -123,3 +123,119 @@ def test_a_loud_file_name(tmp_path: Path) -> None:
     path = tmp_path / "\x1b[31m\udcff\u00e9\\"
     path.write_bytes(sample("sku.vpd"))
     assert same(str(path)) == 0
+
+
+def changed(tmp_path: Path, data: bytes, *words: str) -> Union[bytes, int, None]:
+    """The bytes that a change by the command makes, or the number that it is refused with."""
+    path = tmp_path / "changed"
+    path.write_bytes(data)
+    line = [str(COMMAND), words[0], "--json", str(path), *words[1:]]
+    ended = subprocess.run(line, capture_output=True, check=False)
+    if ended.returncode == 0:
+        return path.read_bytes()
+    assert ended.returncode == 1 and path.read_bytes() == data, ended.stderr
+    number: Optional[int] = json.loads(ended.stdout)["error"]["number"]
+    return number
+
+
+def mine(change: Callable[[], Image]) -> Union[bytes, int, None]:
+    """The bytes that a change by the module makes, or the number that it is refused with."""
+    try:
+        return change().data
+    except boardid.Refused as refused:
+        return refused.number
+    except boardid.Error:
+        return None
+
+
+@pytest.mark.parametrize(
+    "name, entry, typed, value",
+    [
+        ("fboss.bin", "serial", "SN-8", "SN-8"),
+        ("fboss.bin", "state", "200", 200),
+        ("fboss.bin", "state", "256", 256),
+        ("fboss.bin", "date", "2024-02-29", "2024-02-29"),
+        ("fboss.bin", "date", "20240229", "20240229"),
+        ("fboss.bin", "date", "2023-02-29", "2023-02-29"),
+        ("fboss.bin", "bmc-mac", "02-1a-2b-3c-4d-5e/7", "02-1a-2b-3c-4d-5e/7"),
+        ("fboss.bin", "assembly-part", "SHORT", "SHORT"),
+        ("fboss.bin", "Product Name", "", ""),
+        ("onie.bin", "date", "2023-12-31T23:59:58", "2023-12-31T23:59:58"),
+        ("onie.bin", "date", "2023-12-31 23:59:58", "2023-12-31 23:59:58"),
+        ("onie.bin", "date", "12/31/2023 23:59:60", "12/31/2023 23:59:60"),
+        ("onie.bin", "macs", "0x102", 258),
+        ("onie.bin", "macs", "65536", 65536),
+        ("onie.bin", "mac", "020000000001", "020000000001"),
+        ("onie.bin", "country", "cz", "cz"),
+        ("onie.bin", "0x26", "x", b"x"),
+        ("board.vpd", "UUID", "text", "text"),
+        ("board.vpd", "3G_IMEI", "x" * 100, "x" * 100),
+        ("tiny.bin", "serial", "RACK-17", "RACK-17"),
+        ("tiny.bin", "serial", "NEW", "NEW"),
+        ("tiny.bin", "serial", "", ""),
+        ("tiny.bin", "tests", "assembly,system,0x40", "assembly,system,0x40"),
+        ("tiny.bin", "tests", "none", "none"),
+        ("tiny.bin", "tests", "9", 9),
+        ("tiny.bin", "mac", "02:00:00:00:00:01", "02:00:00:00:00:01"),
+        ("tiny.bin", "identity", "revision=0B.07 part=SYS-88", {"revision": "0B.07", "part": "SYS-88"}),
+        ("tiny.bin", "identity-batch", "batch=1234 free=2020", {"batch": 1234, "free": "2020"}),
+        ("tiny.bin", "identity-batch", "batch=9999 serial=LONGER", {"batch": 9999, "serial": "LONGER"}),
+        ("tiny.bin", "system-identity", "serial=X part=Y", {"serial": "X", "part": "Y"}),
+    ],
+)
+@pytest.mark.parametrize("spare", [0, 64])
+def test_a_new_value(tmp_path: Path, name: str, entry: str, typed: str, value: object, spare: int) -> None:
+    data = sample(name) + b"\xff" * spare
+    theirs = changed(tmp_path, data, "set", entry, typed)
+    assert mine(lambda: Image(data).with_value(entry, value)) == theirs
+
+
+@pytest.mark.parametrize(
+    "name, entry, typed, value",
+    [
+        ("fboss.bin", "cpu-mac", "021a2b3c4d5e/16", "021a2b3c4d5e/16"),
+        ("fboss.bin", "date", "2024-02-29", "2024-02-29"),
+        ("onie.bin", "serial", "SN-8", "SN-8"),
+        ("onie.bin", "macs", "7", 7),
+        ("onie.bin", "date", "2023-12-31T23:59:58", "2023-12-31T23:59:58"),
+        ("board.vpd", "UUID", "text", "text"),
+        ("tiny.bin", "serial", "NEW", "NEW"),
+        ("tiny.bin", "tests", "burn-in", "burn-in"),
+        ("tiny.bin", "identity", "serial=A part=B revision=01.02", {"serial": "A", "part": "B", "revision": "01.02"}),
+        ("fboss.bin", "serial", "SN-8", "SN-8"),
+    ],
+)
+def test_removed_and_added(tmp_path: Path, name: str, entry: str, typed: str, value: object) -> None:
+    data = sample(name) + b"\xff" * 16
+    theirs = changed(tmp_path, data, "remove", entry)
+    assert mine(lambda: Image(data).without(entry)) == theirs
+    rest = theirs if isinstance(theirs, bytes) else data
+    added = changed(tmp_path, rest, "add", entry, typed)
+    assert mine(lambda: Image(rest).with_field(entry, value)) == added
+    assert isinstance(added, bytes) == isinstance(theirs, bytes)
+
+
+def test_a_string_that_only_one_entry_counts(tmp_path: Path) -> None:
+    fields = [Field(0x10, b"\0"), Field(0x61, b"\1\2\0\0\0\0"), Field(1, b"A\xc1B\xc2C\xc3rest")]
+    data = boardid.write(fields, Format.TINY, room=80)
+    for entry, typed, value in (
+        ("serial", "LONGER", "LONGER"),
+        ("serial", "BB", "BB"),
+        ("identity", "serial=X part=X", {"serial": "X", "part": "X"}),
+        ("identity", "part=AA", {"part": "AA"}),
+    ):
+        assert mine(lambda: Image(data).with_value(entry, value)) == changed(tmp_path, data, "set", entry, typed)
+
+
+@pytest.mark.parametrize("edition", [1, 2, 3, 4])
+def test_names(edition: int) -> None:
+    line = [str(COMMAND), "names", "--json", "-e", str(edition)]
+    made = json.loads(subprocess.run(line, capture_output=True, check=True).stdout)
+    theirs = [(one["format"], one["code"], one["kind"], one["short"], one["since"]) for one in made["names"]]
+    assert sorted(theirs) == [
+        (kind.format.word, kind.code, kind.number, list(kind.short), kind.since)
+        for kind in sorted(boardid.kinds(edition=edition), key=lambda kind: (kind.format.word, kind.code))
+    ]
+    for one in made["names"]:
+        if one["kind"] != 0x201:
+            assert one["name"] == boardid.kind_name(one["kind"])

@@ -145,7 +145,9 @@ def test_new_values_that_are_refused() -> None:
         fboss.with_value("date", datetime.datetime(2024, 1, 1))
     with pytest.raises(TypeError):
         onie.with_value("extension", "text")
-    for text in ("02:1a:2b:3c:4d", "zz1a2b3c4d5e", "02:1a:2b:3c:4d:5e:6f", "0 1a2b3c4d5e", "02:1a-2b:3c:4d:5e"):
+    no_addresses = ["02:1a:2b:3c:4d", "02:1a:2b:3c:4d:5e:6f", "02:1a-2b:3c:4d:5e", "2:1a:2b:3c:4d:5e"]
+    no_addresses += ["021a2b3c4d", "021a2b3c4d5e6f", "zz1a2b3c4d5e", "0 1a2b3c4d5e", ""]
+    for text in no_addresses:
         with pytest.raises(ValueError):
             onie.with_value("mac", text)
     zone = datetime.datetime(2024, 1, 1, tzinfo=datetime.timezone.utc)

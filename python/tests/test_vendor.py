@@ -66,6 +66,13 @@ def test_an_image_with_another_payload() -> None:
     longer = image.with_vendor(b"x" * 250, room=600)
     assert longer.vendor().serial == b"x" * 250 and longer.room == 600
     assert refused(lambda: image.with_vendor(b"x" * 250)) == (12, 0)
+    pieces = boardid.vendor_write(b"SERIAL", OFFSETS, [4, 3, 0, 15])
+    another = boardid.Field(0xFD, bytes.fromhex("00007ed973"))
+    fields = [boardid.Field(0xFD, piece) for piece in pieces]
+    cut = Image.new(fields[:2] + [another] + fields[2:], Format.ONIE, room=200)
+    joined = cut.with_vendor(b"S")
+    assert joined.vendor().serial == b"S" and joined.vendor().offsets == OFFSETS
+    assert [one.raw for one in joined] == [boardid.vendor_write(b"S", OFFSETS)[0], another.value]
     bare = Image(sample("onie.bin")).without("extension")
     assert refused(bare.vendor) == (17, 0)
     assert bare.with_vendor(b"A").vendor().offsets == (0,) * 8
