@@ -102,10 +102,19 @@ def _parser() -> argparse.ArgumentParser:
     parser.add_argument("file", metavar="FILE", help="the file; - is standard input")
     parser.add_argument("-j", "--json", action="store_true", help="print JSON")
     parser.add_argument(
-        "-e", "--edition", type=_edition, default=EDITION, metavar="N", help="the edition to ask with"
+        "-e",
+        "--edition",
+        type=_edition,
+        default=EDITION,
+        metavar="N",
+        help="the edition to ask the library with",
     )
     parser.add_argument(
-        "-f", "--format", type=_format, metavar="F", help="fboss, vpd, tiny, onie or 1 to 4; else detected"
+        "-f",
+        "--format",
+        type=_format,
+        metavar="F",
+        help="fboss, vpd, tiny, onie or 1 to 4; else it is detected",
     )
     parser.add_argument(
         "-o", "--offset", type=_number, default=0, metavar="N", help="the image begins at byte N"
@@ -148,10 +157,10 @@ def _list(options: argparse.Namespace) -> str:
     except OSError as error:
         raise _Failed(FILE, str(error)) from None
     except Blank as blank:
-        raise _Failed(BLANK, str(blank), "boardid write makes an image") from None
+        raise _blank(blank) from None
     except Refused as refused:
         if refused.number not in (1, 16) and is_blank(data):
-            raise _Failed(BLANK, str(Blank(data[0], len(data))), "boardid write makes an image") from None
+            raise _blank(Blank(data[0], len(data))) from None
         raise _refusal(refused, data, format, options.edition, options.offset) from None
     length = image_length(format, listed)
     if options.json:
@@ -160,6 +169,11 @@ def _list(options: argparse.Namespace) -> str:
         )
         return json.dumps(made, indent=2)
     return table(options.file, format, options.edition, length, len(data), listed)
+
+
+def _blank(blank: Blank) -> _Failed:
+    """What is said of a blank chip."""
+    return _Failed(BLANK, str(blank), "boardid write makes an image")
 
 
 def _refusal(

@@ -96,10 +96,9 @@ def entry(image: Bytes, n: int, format: Optional[int] = None, *, edition: int = 
     data = lent(image)
     format = _format(format, data, edition)
     n = word(n, "an entry", 64)
+    edition = word(edition, "an edition")
     record = output(RECORD_SIZE)
-    call(
-        "boardid_entry", format, word(edition, "an edition"), data, len(data), n, record, len(record)
-    )
+    call("boardid_entry", format, edition, data, len(data), n, record, len(record))
     return entry_of(format, data, n, bytes(record), _texts(format, edition, data))
 
 

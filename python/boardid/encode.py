@@ -19,11 +19,6 @@ _DATE = re.compile(r"([0-9]{4})-([0-9]{2})-([0-9]{2})\Z")
 _DATETIME = re.compile(r"([0-9]{4})-([0-9]{2})-([0-9]{2})[T ]([0-9]{2}:[0-9]{2}:[0-9]{2})\Z")
 
 
-def is_raw(value: object) -> bool:
-    """Whether a value is bytes already."""
-    return isinstance(value, (bytes, bytearray, memoryview))
-
-
 def text_bytes(text: str) -> bytes:
     """The bytes of a text. Those of no ASCII are for the library to refuse."""
     return text.encode("utf-8", "surrogateescape")
@@ -37,7 +32,7 @@ def number_bytes(number: int, width: int, place: int) -> bytes:
 
 
 def string_bytes(text: str, place: int) -> bytes:
-    """A string as a pool stores it: the last byte has its top bit on. Refused with 7 where none can."""
+    """A string as a pool stores it: its last byte has the top bit on. 7 where none can."""
     if not text or not text.isascii():
         what = "no string of the pool has that text" if text else "no string of the pool is empty"
         raise Refused(7, place, what)

@@ -171,7 +171,12 @@ _KINDS: Tuple[Kind, ...] = (
     Kind(Format.TINY, 0x62, "System product identity", ("system-identity",), 1, _IDENTITY),
     Kind(Format.TINY, 0x80, "Product identity w/ batch code", ("identity-batch",), 2, _BATCH),
     Kind(
-        Format.TINY, 0x81, "System product identity w/ batch code", ("system-identity-batch",), 2, _BATCH
+        Format.TINY,
+        0x81,
+        "System product identity w/ batch code",
+        ("system-identity-batch",),
+        2,
+        _BATCH,
     ),
     Kind(Format.ONIE, 0x21, "Product Name", ("product",), 3, _TEXT),
     Kind(Format.ONIE, 0x22, "Part Number", ("part",), 3, _TEXT),
@@ -203,7 +208,7 @@ def kind_of(number: int) -> Optional[Kind]:
 
 
 def kind_name(number: int) -> Optional[str]:
-    """The document's name of a kind, as the header's boardid_kind_name has it; None where none is."""
+    """The document's name of a kind, as boardid_kind_name of the header has it; else None."""
     kind = _BY_NUMBER.get(number)
     return kind.name if kind is not None else None
 

@@ -7,7 +7,7 @@ import os
 from typing import Any, Dict, Iterable, Iterator, List, Mapping, Optional, Tuple, Union
 
 from . import calls
-from .encode import encode, is_raw, pool_parts, string_bytes, text_bytes
+from .encode import encode, pool_parts, string_bytes, text_bytes
 from .records import Entry, Field
 from .errors import AmbiguousName, Error, NoSuchName, Refused
 from .formats import Format, Kind, Reading, Tiny, Vpd, kinds, words
@@ -66,7 +66,7 @@ class Image:
         offset: int = 0,
         length: Optional[int] = None,
     ) -> "Image":
-        """The image in a file, from byte `offset` on, with `length` bytes of room or all that follow."""
+        """The image in a file, from byte `offset` on, with `length` bytes of room or all."""
         with open(path, "rb") as file:
             whole = file.read()
         end = len(whole) if length is None else offset + length
@@ -208,10 +208,12 @@ class Image:
             if isinstance(name, str) and (words(kind.name) == words(name) or name in kind.short)
         ]
         if not found:
-            raise NoSuchName(f"edition {self._edition} names no {escaped(str(name))} in {self._format.title}")
+            title = self._format.title
+            raise NoSuchName(f"edition {self._edition} names no {escaped(str(name))} in {title}")
         if len(found) > 1:
             listed = ", and ".join(f"{kind.name}, {kind.code}" for kind in found)
-            raise AmbiguousName(f"{escaped(str(name))} is {listed}", tuple(kind.code for kind in found))
+            codes = tuple(kind.code for kind in found)
+            raise AmbiguousName(f"{escaped(str(name))} is {listed}", codes)
         return found[0].code, found[0]
 
     # ---- Changes ----------------------------------------------------------------------------
@@ -224,17 +226,13 @@ class Image:
         as a mapping of what changes: serial, part, revision, free, batch.
         """
         entry = self[name]
-        kind = entry.what
-        if kind is None or is_raw(value):
-            raw = lent(value) if is_raw(value) else b""  # type: ignore[arg-type]
-            return self._edited(entry.number, raw, room)
-        base, stored = self._stored(kind, value, entry)
+        base, stored = self._stored(entry.what, value, entry)
         return base._edited(entry.number, stored, self.room if room is None else room)
 
     def with_field(
         self, name: Name, value: object, *, code: Optional[int] = None, room: Optional[int] = None
     ) -> "Image":
-        """The image with one more entry: its name, short name or code, and its value as in with_value.
+        """The image with one more entry: its name or code, and its value as in with_value.
 
         In VPD the name is the new entry's key, and its type is 01h or `code`.
         """
@@ -250,12 +248,9 @@ class Image:
             if isinstance(name, bytes) or code is not None:
                 raise TypeError("only VPD has keys and takes a type")
             number, kind = self._kind(name)
-        room = self.room if room is None else room
-        if kind is None or is_raw(value):
-            raw = lent(value) if is_raw(value) else b""  # type: ignore[arg-type]
-            return self._made(calls.add, Field(number, raw, key), room)
         base, stored = self._stored(kind, value, None)
-        return base._made(calls.add, Field(number, stored, key), room)
+        field = Field(number, stored, key)
+        return base._made(calls.add, field, self.room if room is None else room)
 
     def without(self, name: Name, *, room: Optional[int] = None) -> "Image":
         """The image without an entry."""
@@ -315,15 +310,14 @@ class Image:
         """The image of an addition or a removal."""
         return self._like(change(self._data, what, self._format, edition=self._edition, room=room))
 
-    def _edited(self, number: int, value: bytes, room: Optional[int]) -> "Image":
+    def _edited(self, number: int, value: bytes, room: int) -> "Image":
         """The image with a new value of the entry of that number."""
-        room = self.room if room is None else room
         return self._like(
             calls.edit(self._data, number, value, self._format, edition=self._edition, room=room)
         )
 
     def _fitted(self, room: int) -> "Image":
-        """The image in that much room, with FFh after its end; refused with 12 where it is too little."""
+        """The image in that much room, with FFh after its end; 12 where it is too little."""
         if room > IMAGE_MAX:
             raise Refused(2)
         if self._length > room:
@@ -373,9 +367,13 @@ class Image:
         return self._edited(pool.number, pool.raw + stored, IMAGE_MAX), len(strings)
 
     def _stored(
-        self, kind: Kind, value: object, entry: Optional[Entry]
+        self, kind: Optional[Kind], value: object, entry: Optional[Entry]
     ) -> Tuple["Image", bytes]:
-        """The bytes of a value, and the image that they go into, whose pool may have a new string."""
+        """The bytes of a value, and the image that they go into: its pool may have more."""
+        if isinstance(value, (bytes, bytearray, memoryview)):
+            return self, lent(value)
+        if kind is None:
+            return self, b""  # a code without a name is refused, whatever its value
         place = entry.place if entry is not None else 0
         old = entry.value if entry is not None else None
         if kind.reading == Reading.STRING_NUMBER and isinstance(value, str):

@@ -123,7 +123,7 @@ def lent(data: Bytes) -> bytes:
 
 
 def word(number: int, what: str, bits: int = 32) -> int:
-    """A number that fits the argument it is for. ctypes would cut it, and take 257 of 8 bits for 1."""
+    """A number that fits the argument it is for; ctypes would cut any other."""
     number = operator.index(number)
     if not 0 <= number < 1 << bits:
         raise ValueError(f"{what} is a number from 0 to {(1 << bits) - 1}, not {number}")

@@ -52,7 +52,7 @@ def json_file(file: Optional[str]) -> Optional[str]:
 
 
 def _json_text(text: Optional[str]) -> Optional[str]:
-    """A string of the pool as JSON has it: null where there is none, or where it is not printable."""
+    """A string of the pool as JSON has it: null where it is none or not printable."""
     return text if text is not None and printable(text.encode("ascii")) else None
 
 
@@ -110,7 +110,7 @@ def _typed(entry: Entry) -> Dict[str, Any]:
 
 
 def entry_object(entry: Entry, offset: int = 0) -> Dict[str, Any]:
-    """An entry as JSON has it. Its places count bytes of the file, where the image is at `offset`."""
+    """An entry as JSON has it. Its places count bytes of the file, from `offset` on."""
     made: Dict[str, Any] = {
         "number": entry.number,
         "code": entry.code,
@@ -167,7 +167,8 @@ def _quoted(string: String) -> str:
 
 def _cut(text: str) -> str:
     """A text, or the front of a long one."""
-    return escaped(text) if len(text) <= TEXT_MAX else f"{escaped(text[:TEXT_MAX])} .. ({len(text)} bytes)"
+    shown = escaped(text[:TEXT_MAX])
+    return shown if len(text) <= TEXT_MAX else f"{shown} .. ({len(text)} bytes)"
 
 
 def value_words(entry: Entry) -> str:

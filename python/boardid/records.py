@@ -63,7 +63,7 @@ class Entry:
 
     @property
     def name(self) -> Optional[str]:
-        """The document's name of the code; None where it has none. VPD 01h has its key for a name."""
+        """The document's name of the code; else None. VPD 01h has its key for a name."""
         kind = self.what
         return kind.name if kind is not None and kind.number != 0x201 else None
 

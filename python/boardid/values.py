@@ -24,7 +24,7 @@ class AddressBlock:
 
     @classmethod
     def of(cls, text: str, count: int = 1) -> "AddressBlock":
-        """The block of an address with `:`, `-` or nothing between its six bytes; also ADDRESS/COUNT."""
+        """The block of six bytes with `:`, `-` or nothing between them; also ADDRESS/COUNT."""
         address, slash, number = text.partition("/")
         digits = address
         for separator in (":", "-"):
@@ -44,7 +44,7 @@ class AddressBlock:
 
 @dataclass(frozen=True)
 class String:
-    """A string number of a Tiny image, with the text that it counts; None where the pool has none."""
+    """A string number of a Tiny image, with its text; None where the pool has none."""
 
     number: int
     text: Optional[str] = None
@@ -86,7 +86,8 @@ class Flags:
                 try:
                     number |= int(test, 0)
                 except ValueError:
-                    raise ValueError(f"{test!r} is no test: {', '.join(TESTS)}, or a number") from None
+                    tests = ", ".join(TESTS)
+                    raise ValueError(f"{test!r} is no test: {tests}, or a number") from None
         return cls(number)
 
     def __str__(self) -> str:
@@ -96,7 +97,7 @@ class Flags:
 
 @dataclass(frozen=True)
 class Identity:
-    """A product's identity: two strings of the pool, a revision, two free bytes, perhaps a batch."""
+    """A product's identity: two strings, a revision, two free bytes, perhaps a batch."""
 
     serial: String
     part: String
@@ -134,4 +135,6 @@ def revision_of(text: str) -> Tuple[int, int]:
 
 
 #: What an entry's value may be. A `datetime.datetime` is also a `datetime.date`.
-Value = Union[str, int, AddressBlock, String, Flags, Identity, datetime.date, datetime.datetime, bytes]
+Value = Union[
+    str, int, AddressBlock, String, Flags, Identity, datetime.date, datetime.datetime, bytes
+]

@@ -1,4 +1,4 @@
-"""The vendor payload of an optics lab's amplifiers, which an ONIE image keeps in its FDh entries."""
+"""The vendor payload of an optics lab's amplifiers, in the FDh entries of an ONIE image."""
 
 from __future__ import annotations
 
@@ -34,7 +34,7 @@ _BLOCK = struct.Struct("<4I8i")
 
 @dataclass(frozen=True)
 class Vendor:
-    """What a payload says: the serial, which may be any bytes, and offsets in tenths of a decibel."""
+    """What a payload says: the serial, any bytes, and offsets in tenths of a decibel."""
 
     serial: bytes
     offsets: Tuple[int, ...]

@@ -239,3 +239,67 @@ def test_names(edition: int) -> None:
     for one in made["names"]:
         if one["kind"] != 0x201:
             assert one["name"] == boardid.kind_name(one["kind"])
+
+
+def test_vendor(tmp_path: Path) -> None:
+    for name in ("amplifier.bin", "onie.bin"):
+        line = [str(COMMAND), "vendor", "--json", str(ROOT / "samples" / name)]
+        theirs = json.loads(subprocess.run(line, capture_output=True, check=True).stdout)["vendor"]
+        vendor = boardid.vendor_read(sample(name))
+        assert theirs["offsets"] == vendor.by_name and list(theirs["offsets"]) == list(boardid.OFFSETS)
+        assert theirs["serial_bytes"] == vendor.serial.hex()
+        assert theirs["payload_length"] == len(vendor.payload)
+    bare = Image(sample("onie.bin")).without("extension").data
+    pieces = boardid.vendor_write(b"SERIAL", [0] * 8, [4, 3, 0, 15])
+    cut = Image.new([Field(0xFD, piece) for piece in pieces], Format.ONIE, room=500).data
+    for data in (sample("amplifier.bin"), sample("onie.bin"), bare, cut, sample("tiny.bin")):
+        for serial, west in ((None, 24), ("NEW", None), ("DQ000MPX", -128), ("x" * 200, 127), ("x" * 256, 0)):
+            words = [f"serial={serial}"] if serial is not None else []
+            words += [f"c-band-west-in={west / 10}"] if west is not None else []
+            offsets = {"c-band-west-in": west} if west is not None else {}
+            text = serial.encode() if serial is not None else None
+            theirs = changed(tmp_path, data, "vendor", *words)
+            assert mine(lambda: Image(data).with_vendor(text, offsets)) == theirs, words
+
+
+def test_rooms(tmp_path: Path) -> None:
+    file = sample("room.bin")
+    line = [str(COMMAND), "room", "list", "--json", str(ROOT / "samples" / "room.bin")]
+    boards = json.loads(subprocess.run(line, capture_output=True, check=True).stdout)["boards"]
+    assert [(one["board"], one["format"], one["place"], one["length"], one["entries"]) for one in boards] == [
+        (row.board, Format(row.format).word, row.place, row.length, boardid.check(body, row.format))
+        for row in boardid.room_rows(file)
+        for body in [boardid.room_fetch(file, row.board)]
+    ]
+    path, body = tmp_path / "room", tmp_path / "body"
+    body.write_bytes(sample("tiny.bin"))
+    path.write_bytes(file)
+    for what, board, made in (
+        ("add", "5", boardid.room_add(file, 5, body.read_bytes())),
+        ("replace", "17", boardid.room_replace(file, 17, body.read_bytes())),
+        ("remove", "1001", boardid.room_remove(file, 1001)),
+    ):
+        extra = [] if what == "remove" else [str(body)]
+        path.write_bytes(file)
+        line = [str(COMMAND), "room", what, str(path), board, *extra]
+        subprocess.run(line, check=True, capture_output=True)
+        assert path.read_bytes() == made
+    path.unlink()
+    line = [str(COMMAND), "room", "add", str(path), "7", str(body)]
+    subprocess.run(line, check=True, capture_output=True)
+    assert path.read_bytes() == boardid.room_add(boardid.room_empty(), 7, body.read_bytes())
+
+
+def test_write_takes_what_the_module_gives(image_name: str, tmp_path: Path) -> None:
+    """An image goes from to_json through the command's write, where every entry can be written."""
+    image = Image(sample(image_name))
+    path = tmp_path / "made"
+    line = [str(COMMAND), "write", "--size", str(image.room), str(path)]
+    ended = subprocess.run(line, input=image.to_json().encode(), capture_output=True, check=False)
+    fields = [one.field for one in image]
+    try:
+        wanted = boardid.write(fields, image.format, room=image.room)
+    except boardid.Refused:
+        assert ended.returncode == 1 and not path.exists()
+        return
+    assert ended.returncode == 0 and path.read_bytes() == wanted
