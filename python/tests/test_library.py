@@ -61,7 +61,8 @@ def test_refusals_have_the_texts_of_the_header() -> None:
 @pytest.mark.parametrize("group", [boardid.Fboss, boardid.Vpd, boardid.Tiny, boardid.Onie])
 def test_codes_are_those_of_the_header(group: "type[boardid.Fboss]") -> None:
     pattern = rf"BOARDID_{group.__name__.upper()}_(\w+) = (0x[0-9A-F]+|\d+)"
-    constants = {name: int(number, 0) for name, number in re.findall(pattern, HEADER)}
+    codes = HEADER.split("#define BOARDID_KIND")[0]
+    constants = {name: int(number, 0) for name, number in re.findall(pattern, codes)}
     assert {member.name: int(member) for member in group} == constants
 
 
@@ -123,3 +124,10 @@ def test_what_is_no_bytes() -> None:
     for wrong in ("text", 7, None):
         with pytest.raises(TypeError):
             boardid.check(wrong, 2)  # type: ignore[arg-type]
+
+
+def test_the_version_is_one() -> None:
+    """The package, the module and, where it has one, the header have the same version."""
+    project = (Path(__file__).resolve().parents[1] / "pyproject.toml").read_text()
+    assert f'version = "{boardid.__version__}"' in project
+    assert re.findall(r'BOARDID_VERSION_TEXT "([^"]*)"', HEADER) in ([], [boardid.__version__])

@@ -11,7 +11,13 @@ from conftest import ROOT
 import boardid
 from boardid import Field, Format, Refused
 
-LIST_C = (ROOT / "examples" / "list.c").read_text()
+# The names stand in the header's boardid_kind_name, before it had that in the example list.
+SOURCES = "".join(
+    (ROOT / path).read_text() for path in ("include/edition-4/boardid.h", "examples/list.c")
+)
+NAMES = re.compile(
+    r"BOARDID_KIND\(BOARDID_FORMAT_(\w+),\s*BOARDID_[A-Z]+_(\w+)\)(?:,|:\s*return)\s*\"([^\"]*)\""
+)
 
 
 def refusal(format: int, code: int, edition: int) -> Optional[Refused]:
@@ -42,10 +48,10 @@ def test_editions_that_there_are_none_of() -> None:
 
 
 def test_names_are_those_of_the_documents() -> None:
-    listed = re.findall(r'BOARDID_KIND\(BOARDID_FORMAT_(\w+), BOARDID_(\w+?)_(\w+)\),\s*"([^"]*)"', LIST_C)
+    listed = NAMES.findall(SOURCES)
     assert len(listed) == 40
     groups = {"FBOSS": boardid.Fboss, "VPD": boardid.Vpd, "TINY": boardid.Tiny, "ONIE": boardid.Onie}
-    for format, _, constant, name in listed:
+    for format, constant, name in listed:
         kind = Format[format] * 256 + groups[format][constant]
         assert boardid.kind_name(kind) == (name.strip() or "string")
     assert len(boardid.kinds()) == len(listed)
