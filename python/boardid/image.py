@@ -16,6 +16,18 @@ from .listing import escaped, list_object, name_words, table
 from .values import Identity, String, revision_of
 from .vendor import PREFIX, Vendor, few_pieces, vendor_read, vendor_write
 
+#: How many bytes at the front of a Tiny value are string numbers, in every edition.
+_COUNTED: Dict[int, int] = {
+    Tiny.ASCII_STRINGS: 0,
+    Tiny.SERIAL_NUMBER: 1,
+    Tiny.FACTORY_TEST_FLAGS: 0,
+    Tiny.BASE_MAC_ADDRESS: 0,
+    Tiny.PRODUCT_IDENTITY: 2,
+    Tiny.SYSTEM_PRODUCT_IDENTITY: 2,
+    Tiny.PRODUCT_IDENTITY_BATCH: 2,
+    Tiny.SYSTEM_PRODUCT_IDENTITY_BATCH: 2,
+}
+
 #: What an entry is asked for by: a name, a code, or a VPD key.
 Name = Union[str, int, bytes]
 
@@ -333,22 +345,21 @@ class Image:
         return next((one for one in self._entries if one.code == Tiny.ASCII_STRINGS), None)
 
     def _uses(self, number: int) -> int:
-        """How often the entries count a string; an entry without a name may count any."""
+        """How often the entries count a string. A tag that no edition names may count any."""
         uses = 0
         for entry in self._entries:
-            value = entry.value
-            if isinstance(value, String):
-                uses += value.number == number
-            elif isinstance(value, Identity):
-                uses += (value.serial.number == number) + (value.part.number == number)
-            elif entry.kind == 0:
-                uses += 1
+            counted = _COUNTED.get(entry.code)
+            uses += 1 if counted is None else entry.raw[:counted].count(number)
         return uses
 
-    def _with_string(self, text: str, old: Optional[int], place: int) -> Tuple["Image", int]:
-        """An image whose pool has a text, and its number there. `old` is what counted it before.
+    def _with_string(
+        self, text: str, old: Optional[int], place: int, taken: Tuple[int, ...] = ()
+    ) -> Tuple["Image", int]:
+        """An image whose pool has a text, and its number there.
 
-        No entry changes its number: the pool is the last entry, or becomes it.
+        `old` is the string that was counted before; it is rewritten where nothing else counts it,
+        and it is not one of those `taken`. No entry changes its number: the pool is the last entry,
+        or becomes it.
         """
         stored = string_bytes(text, place)
         strings = list(self.strings)
@@ -357,7 +368,8 @@ class Image:
         pool = self._pool()
         if pool is None:
             return self._made(calls.add, Field(Tiny.ASCII_STRINGS, stored), IMAGE_MAX), 0
-        if old is not None and old < len(strings) and self._uses(old) == 1:
+        there = old is not None and old < len(strings) and old not in taken
+        if there and old is not None and self._uses(old) == 1:
             parts = [string_bytes(one, place) for one in strings]
             rest = pool_parts(pool.raw)[1]
             parts[old] = stored
@@ -400,21 +412,21 @@ class Image:
         if before is None and not {"serial", "part", "revision"} <= set(given):
             raise ValueError("a new identity needs serial, part and revision")
         image = self
-        numbers: List[int] = []
-        for word, string in (
-            ("serial", before.serial if before else None),
-            ("part", before.part if before else None),
-        ):
-            text = given.get(word)
+        olds = {"serial": before.serial, "part": before.part} if before else {}
+        numbers: Dict[str, int] = {}
+        texts: Dict[str, str] = {}
+        for word in ("serial", "part"):
+            text = given.get(word, olds.get(word))
             if isinstance(text, str):
-                image, number = image._with_string(text, string.number if string else None, place)
+                texts[word] = text
             elif isinstance(text, (int, String)):
-                number = text if isinstance(text, int) else text.number
-            elif text is None and string is not None:
-                number = string.number
+                numbers[word] = text if isinstance(text, int) else text.number
             else:
                 raise TypeError(f"{word} is a text or a string number, not {type(text).__name__}")
-            numbers.append(number)
+        for word, text in texts.items():
+            old_number = olds[word].number if word in olds else None
+            taken = tuple(numbers.values())
+            image, numbers[word] = image._with_string(text, old_number, place, taken)
         if "revision" in given:
             major, minor = revision_of(given["revision"])
         else:
@@ -426,7 +438,7 @@ class Image:
             batch = 0
         free_bytes = bytes.fromhex(free) if isinstance(free, str) else lent(free)
         return image, Identity(
-            String(numbers[0]), String(numbers[1]), major, minor, free_bytes, batch
+            String(numbers["serial"]), String(numbers["part"]), major, minor, free_bytes, batch
         )
 
     # ---- JSON -------------------------------------------------------------------------------

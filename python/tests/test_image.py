@@ -225,6 +225,51 @@ def test_an_entry_without_a_name_may_count_a_string() -> None:
     assert isinstance(newer, Identity) and newer.serial.text == "S1"
 
 
+def test_an_entry_without_a_name_that_counts_another_string() -> None:
+    fields = [Field(0x10, b"\1"), Field(0x80, bytes(8)), Field(1, b"S\xb1T\xb1")]
+    old = Image(boardid.write(fields, Format.TINY, room=64), edition=1)
+    assert old.with_value("serial", "NEW").strings == ("S1", "NEW")
+
+
+def test_a_tag_that_no_edition_names_may_count_any_string() -> None:
+    """53h is a tag of five bytes. Its image is made by hand, with every check: one is right."""
+    body = bytes.fromhex("5602111000531122334455") + b"\x01\x03A\xc1B"
+    made = [body + bytes([check]) for check in range(256)]
+    (image,) = [Image(one + b"\xff" * 9) for one in made if number_of(one) == 0]
+    assert image.entries[1].kind == 0 and image.strings == ("AA",)
+    with pytest.raises(boardid.Error, match="the pool ends in bytes of no string"):
+        image.with_value("serial", "NEW")
+
+
+def number_of(data: bytes) -> int:
+    """What an image is refused with, or 0."""
+    try:
+        boardid.check(data)
+    except boardid.Refused as refused:
+        return refused.number
+    return 0
+
+
+def test_an_identity_whose_texts_are_swapped() -> None:
+    """A string that one half has just been given is not rewritten for the other."""
+    fields = [Field(0x61, b"\0\1\0\0\0\0"), Field(1, b"A\xc1B\xc2")]
+    image = Image(boardid.write(fields, Format.TINY, room=64))
+    for given, texts in (
+        ({"serial": "BB", "part": "NEW"}, ("BB", "NEW")),
+        ({"serial": "NEW", "part": "AA"}, ("NEW", "AA")),
+        ({"serial": "BB", "part": "AA"}, ("BB", "AA")),
+        ({"serial": 1, "part": "NEW"}, ("BB", "NEW")),
+        ({"serial": "NEW", "part": 0}, ("NEW", "AA")),
+        ({"serial": "NEW", "part": String(1)}, ("NEW", "BB")),
+        ({"serial": "X", "part": "X"}, ("X", "X")),
+        ({"part": "NEW"}, ("AA", "NEW")),
+    ):
+        value = image.with_value("identity", given)["identity"].value
+        assert isinstance(value, Identity) and (value.serial.text, value.part.text) == texts
+    with pytest.raises(TypeError):
+        image.with_value("identity", {"serial": 1.5})
+
+
 def test_flags_identities_and_pools() -> None:
     tiny = Image(sample("tiny.bin"))
     for flags, number in (

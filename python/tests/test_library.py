@@ -71,9 +71,9 @@ def test_readings_are_those_of_the_header() -> None:
     assert {name: int(number) for name, number in constants} == {one.name: int(one) for one in boardid.Reading}
 
 
-def run(code: str, library: str) -> "subprocess.CompletedProcess[str]":
-    """Runs Python with another library."""
-    environment = dict(os.environ, BOARDID_LIBRARY=library)
+def run(code: str, library: str, folder: str = "") -> "subprocess.CompletedProcess[str]":
+    """Runs Python with another library, or with none named and a folder for the loader."""
+    environment = dict(os.environ, BOARDID_LIBRARY=library, LD_LIBRARY_PATH=folder)
     environment["PYTHONPATH"] = str(Path(boardid.__file__).parents[1])
     return subprocess.run(
         [sys.executable, "-c", code], env=environment, capture_output=True, text=True, check=False
@@ -86,6 +86,18 @@ def test_a_library_that_is_not_there(tmp_path: Path) -> None:
     last = ended.stderr.splitlines()[-1]
     assert last.startswith(f"OSError: the shared library {tmp_path}/none.so cannot be loaded")
     assert "BOARDID_LIBRARY" in last
+
+
+@pytest.mark.skipif(not os.environ.get("BOARDID_LIBRARY"), reason="the loader finds the library")
+def test_a_library_that_the_loader_finds(tmp_path: Path) -> None:
+    code = "import boardid; print(boardid.check(b'\\0', 2))"
+    (tmp_path / "libboardid.so.1").symlink_to(Path(os.environ["BOARDID_LIBRARY"]).resolve())
+    assert run(code, "", str(tmp_path)).stdout == "0\n"
+    (tmp_path / "libboardid.so.1").unlink()
+    (tmp_path / "libboardid.so.1").write_bytes(b"no library")
+    last = run(code, "", str(tmp_path)).stderr.splitlines()[-1]
+    assert last.startswith("OSError: the shared library libboardid.so.1 cannot be loaded (")
+    assert "install the package libboardid1" in last
 
 
 def test_a_library_without_the_exports() -> None:

@@ -232,7 +232,10 @@ def test_no_raw_byte_goes_to_a_terminal(tmp_path: Path) -> None:
 
 def test_a_terminal() -> None:
     """The same on a terminal itself."""
-    mine, theirs = pty.openpty()
+    try:
+        mine, theirs = pty.openpty()
+    except OSError:
+        pytest.skip("there are no terminals here")
     line = [sys.executable, "-m", "boardid", str(ROOT / "samples" / "names.vpd")]
     environment = dict(os.environ, PYTHONPATH=str(Path(boardid.__file__).parents[1]))
     ended = subprocess.run(line, env=environment, stdout=theirs, stderr=theirs, check=False)
