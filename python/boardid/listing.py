@@ -165,17 +165,11 @@ def _quoted(string: String) -> str:
     return _in_quotes(string.text) if string.text is not None else _string_words(string)
 
 
-def _cut(text: str) -> str:
-    """A text, or the front of a long one."""
-    shown = escaped(text[:TEXT_MAX])
-    return shown if len(text) <= TEXT_MAX else f"{shown} .. ({len(text)} bytes)"
-
-
 def value_words(entry: Entry) -> str:
     """The value of an entry as the table has it. None of its characters needs escaping."""
     value = entry.value
     if isinstance(value, str):
-        return _cut(value)
+        return escaped(value)
     if isinstance(value, int):
         return str(value)
     if isinstance(value, AddressBlock):
@@ -201,7 +195,8 @@ def value_words(entry: Entry) -> str:
         words_of_pool = ", ".join(_in_quotes(text) for text in strings) or "no strings"
         return words_of_pool + (f"; {len(rest)} bytes of no string" if rest else "")
     if _is_vpd_text(entry):
-        return _cut(entry.raw.decode("ascii"))
+        text = escaped_bytes(entry.raw[:TEXT_MAX])
+        return text if len(entry.raw) <= TEXT_MAX else f"{text} .. ({len(entry.raw)} bytes)"
     shown = entry.raw[:BYTES_MAX].hex(" ") or "no bytes"
     return shown if len(entry.raw) <= BYTES_MAX else f"{shown} .. ({len(entry.raw)} bytes)"
 

@@ -101,9 +101,8 @@ def test_a_library_that_the_loader_finds(tmp_path: Path) -> None:
 
 
 def test_a_library_without_the_exports() -> None:
-    path = next(
-        line.split()[-1] for line in open("/proc/self/maps") if re.search(r"/libc\.so|/libc-", line)
-    )
+    maps = Path("/proc/self/maps").read_text().splitlines()
+    path = next(line.split()[-1] for line in maps if re.search(r"/libc\.so|/libc-", line))
     ended = run("import boardid; boardid.load()", path)
     last = ended.stderr.splitlines()[-1]
     assert last == (
