@@ -104,6 +104,14 @@ status() {
     is "status $found of $*" "status $wanted of $*"
 }
 
+# fails COMMAND..: whether a command has another exit status than 0.
+fails() {
+    if "$@"; then
+        echo "not refused: $*"
+        return 1
+    fi
+}
+
 # ---- The build ------------------------------------------------------------------------------------
 
 # The tree as it stands, without what is built.
@@ -121,9 +129,9 @@ copy_tree() {
 
 # Without an archive the build ends at once, and says what is missing.
 no_archive() {
-    ! (cd "$room/tree" && debian/rules build) >"$room/no-archive" 2>&1
+    fails make -C "$room/tree" -f debian/rules build >"$room/no-archive" 2>&1
     grep 'there is no archive target/staticlib/libboardid.a' "$room/no-archive"
-    (cd "$room/tree" && debian/rules clean)
+    make -C "$room/tree" -f debian/rules clean
 }
 
 build() {
@@ -152,9 +160,9 @@ same_archive() {
 }
 
 lintian_says_nothing() {
-    local words=(--fail-on error,warning)
+    local words=()
     [ "$(id -u)" -ne 0 ] || words+=(--allow-root)
-    lintian "${words[@]}" "$room"/boardid_*.changes
+    lintian --fail-on 'error,warning' "${words[@]}" "$room"/boardid_*.changes
 }
 
 # The packages are those that are meant to be, and the one for Python names the library.
@@ -227,7 +235,7 @@ purge_packages() {
     fi
     files_of_root >"$room/after"
     diff "$room/before" "$room/after"
-    ! grep -E '^Package: .*boardid' "$root/var/lib/dpkg/status"
+    fails grep -E '^Package: .*boardid' "$root/var/lib/dpkg/status"
 }
 
 # inside COMMAND..: runs a command in the root, or in the folder with the machine's programs, with the samples in the folder where it runs.
@@ -236,7 +244,7 @@ inside() {
         (cd "$root/try" && env -i "PATH=$root/usr/bin:/usr/bin:/bin" LC_ALL=C.UTF-8 "LD_LIBRARY_PATH=$root/usr/lib/$multiarch" "PYTHONPATH=$root/usr/lib/python3/dist-packages" \
             PYTHONDONTWRITEBYTECODE=1 "PKG_CONFIG_PATH=$root/usr/lib/$multiarch/pkgconfig" "$@")
     else
-        env -i PATH=/usr/bin:/bin LC_ALL=C.UTF-8 PYTHONDONTWRITEBYTECODE=1 chroot "$root" /bin/sh -c 'cd /try && exec "$@"' sh "$@"
+        env -i PATH=/usr/bin:/bin LC_ALL=C.UTF-8 PYTHONDONTWRITEBYTECODE=1 /usr/sbin/chroot "$root" /bin/sh -c 'cd /try && exec "$@"' sh "$@"
     fi
 }
 
@@ -257,7 +265,7 @@ command_reads() {
         inside boardid list "$file"
         inside boardid check "$file"
     done
-    is "$(inside boardid get onie.bin serial)" C2N0123456
+    is "$(inside boardid get onie.bin serial)" LAB-000471
     is "$(inside boardid get sku.vpd SKU)" A7
     inside boardid vendor amplifier.bin | grep -F DQ000MPW
     inside boardid room list room.bin | grep -F 4026531841
@@ -298,10 +306,10 @@ linked() {
     inside ldd "$(above)/usr/bin/boardid" >"$room/ldd"
     cat "$room/ldd"
     grep -F libjansson.so "$room/ldd"
-    ! grep -F -e 'not found' -e libboardid "$room/ldd"
+    fails grep -F -e 'not found' -e libboardid "$room/ldd"
     inside ldd "$(above)/usr/lib/$multiarch/libboardid.so.1" >"$room/ldd"
     cat "$room/ldd"
-    ! grep -F 'not found' "$room/ldd"
+    fails grep -F 'not found' "$room/ldd"
     objdump -p "$root/usr/lib/$multiarch/libboardid.so.1" | grep -E 'SONAME +libboardid\.so\.1$'
 }
 
@@ -338,7 +346,7 @@ page_program() {
 }
 
 page_prototypes() {
-    page_text | sed -n '/^ANSWERS/,/^REFUSALS/p' | sed -n '/^           [a-z].*boardid_[a-z_]*(/,/);$/p' | sed 's/^           \([a-z]\)/static inline \1/'
+    page_text | sed -n '/^ANSWERS/,/^REFUSALS/p' | awk '/^           [a-z].*boardid_[a-z_]*\(/ { sub(/^ */, "static inline "); on = 1 } on { print } /;$/ { on = 0 }'
 }
 
 page_compiles() {
@@ -357,7 +365,8 @@ page_compiles() {
     shell './page-static <onie.bin' | diff "$room/page.out" -
     status 1 shell './page-shared <tiny.bin'
     inside ldd page-shared | grep -F libboardid.so.1
-    ! inside ldd page-archive | grep -F libboardid
+    inside ldd page-archive >"$room/ldd"
+    fails grep -F libboardid "$room/ldd"
 }
 
 # Each prototype of the page is that of the header: as a second declaration it compiles; and no call of the header is left out of the page.
@@ -401,7 +410,7 @@ examples() {
 
 python_module() {
     is "$(inside /usr/bin/python3 -c 'import boardid; print(boardid.__file__)')" "$(above)/usr/lib/python3/dist-packages/boardid/__init__.py"
-    inside /usr/bin/python3 -m boardid onie.bin | grep -F C2N0123456
+    inside /usr/bin/python3 -m boardid onie.bin | grep -F LAB-000471
     inside /usr/bin/python3 -m boardid --json tiny.bin >"$room/tiny.json"
     is "$(/usr/bin/python3 -c 'import json, sys; print(json.load(sys.stdin)["format"])' <"$room/tiny.json")" tiny
     is "$(inside /usr/bin/python3 -c 'from importlib.metadata import version; print(version("boardid"))')" "$version"
@@ -435,8 +444,10 @@ page_has_help() {
     done <"$room/options"
 }
 
-# complete LINE: what the completion offers for the last word of a line, one on a line. The command is the one in the root, and the samples are where it runs.
+# complete_line LINE WORDS: what the completion offers for the last word of a line, one on a line; the words are those that readline makes of it. The command is the one in the root, and
+# the samples are where it runs.
 complete_line() {
+    # shellcheck disable=SC2016 # expanded by that bash
     (cd "$root/try" && env -i PATH=/usr/bin:/bin LC_ALL=C.UTF-8 bash --norc --noprofile -c '
         . "$1"
         COMP_WORDBREAKS=$'"' \\t\\n\"'\\''><=;|&(:'"' COMP_LINE=$3 COMP_POINT=${#3}
