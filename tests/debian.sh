@@ -369,13 +369,20 @@ page_compiles() {
     fails grep -F libboardid "$room/ldd"
 }
 
-# Each prototype of the page is that of the header: as a second declaration it compiles; and no call of the header is left out of the page.
+# The refusals of that page, as declarations that compile where the header has these names with these numbers.
+page_refusals() {
+    page_text | sed -n '/^REFUSALS/,/^EXAMPLE/p' | sed -nE 's/^ +([0-9]+)  ([A-Z_]+)  .*/typedef char refusal_\1[BOARDID_REFUSED_\2 == \1 ? 1 : -1];/p'
+}
+
+# Each prototype of the page is that of the header: as a second declaration it compiles. So it is with the 23 refusals. No call of the header is left out of the page.
 page_is_true() {
     local name
     {
         echo '#include <boardid.h>'
         page_prototypes
+        page_refusals
     } >"$root/try/prototypes.c"
+    is "$(grep -c '^typedef char refusal_' "$root/try/prototypes.c")" 23
     # shellcheck disable=SC2016 # expanded inside
     shell 'gcc -std=c99 -Wall -Wextra -Werror $(pkg-config --cflags boardid) -fsyntax-only prototypes.c'
     page_text >"$room/page.txt"
@@ -465,8 +472,12 @@ completion() {
     complete_line 'boardid get onie.bin --' 'boardid get onie.bin --' | grep -x -e --raw
     is "$(complete_line 'boardid get onie.bin Serial' 'boardid get onie.bin Serial')" 'Serial\ Number'
     is "$(complete_line 'boardid get onie.bin "Serial' 'boardid get onie.bin \"Serial')" 'Serial Number'
+    is "$(complete_line 'boardid get onie.bin seri' 'boardid get onie.bin seri')" serial
+    printf '\001\006my key\001x\000' >"$root/try/key.vpd"
+    is "$(complete_line 'boardid get key.vpd my' 'boardid get key.vpd my')" 'my\ key'
+    is "$(complete_line "boardid get key.vpd 'my" "boardid get key.vpd \\'my")" 'my key'
     is "$(complete_line 'boardid get onie.bin #12' 'boardid get onie.bin \#12')" '\#12'
-    is "$(complete_line 'boardid get board.vpd ser' 'boardid get board.vpd ser')" serial_number
+    is "$(complete_line 'boardid get board.vpd UU' 'boardid get board.vpd UU')" UUID
     is "$(complete_line 'boardid room fetch room.bin 2' 'boardid room fetch room.bin 2')" 2001
     complete_line 'boardid add onie.bin ' "boardid add onie.bin ''" | grep -x extension
     is "$(complete_line 'boardid vendor amplifier.bin c-band-west-o' 'boardid vendor amplifier.bin c-band-west-o')" 'c-band-west-out='
