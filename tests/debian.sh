@@ -134,6 +134,12 @@ no_archive() {
     make -C "$room/tree" -f debian/rules clean
 }
 
+# nocheck leaves the tests out, and nothing else does.
+nocheck() {
+    is "$(make -s -n -C "$room/tree" -f debian/rules override_dh_auto_test | grep -c -F tests/command/run.sh)" 1
+    is "$(DEB_BUILD_OPTIONS=nocheck make -s -n -C "$room/tree" -f debian/rules override_dh_auto_test | grep -c -F tests/ || true)" 0
+}
+
 build() {
     mkdir -p "$room/tree/target/staticlib"
     cp "$archive" "$room/tree/target/staticlib/libboardid.a"
@@ -487,6 +493,7 @@ completion() {
 
 try 'a copy of the tree' copy_tree
 try 'without an archive the build says so' no_archive
+try 'nocheck leaves the tests out' nocheck
 echo 'building the packages'
 try 'dpkg-buildpackage' build
 if [ "$failed" -gt 0 ]; then
