@@ -271,8 +271,8 @@ linked 'a link, run by sh' sh twice 2 2 ../../image
 cd "$tree"
 linked 'in its own folder' ./list 2 2 ../image
 linked 'in its own folder, run by sh' sh list 2 2 ../image
-linked 'with a CDPATH' env CDPATH="$work" ./list 2 2 ../image
 cd "$work"
+linked 'with a CDPATH' env CDPATH="$work" 'a tree/list' 2 2 image
 cp "$tree/list" "$work/other/list"
 run "$work/other/list" 2 2 "$work/image"
 holds 'a copy elsewhere: status 3' is_status 3
