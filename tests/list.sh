@@ -342,6 +342,20 @@ for name in writer promises boardid cases; do
     holds "the repository's crates: not $name" counts err ": $name (" 0
 done
 
+# ---- an rt that ends at once: what waits for it ends too, each time
+printf 'list_image:\n' >"$tree/crates.txt"
+unchanged
+plan <<'END'
+exit 0
+END
+ended=0
+while [ "$ended" -lt 60 ]; do
+    run timeout 5 "$tree/list" 2 2 "$work/image"
+    is_status 0 || break
+    ended=$((ended + 1))
+done
+holds "60 runs of an rt that ends at once: $ended ended by themselves" test "$ended" -eq 60
+
 # ---- nothing is left behind, also where it is ended
 unchanged
 plan <<'END'
