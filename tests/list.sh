@@ -66,11 +66,11 @@ answer() {
     echo "${2:-0}" >"$work/ends"
 }
 
-# Runs a command, and keeps its status, output and what it says.
+# Runs a command, and keeps its status, output and what it says. One that does not end is ended, with status 124.
 run() {
     rm -f "$work/words" "$work/folder" "$work/input"
     status=0
-    "$@" >"$work/out" 2>"$work/err" </dev/null || status=$?
+    timeout 20 "$@" >"$work/out" 2>"$work/err" </dev/null || status=$?
 }
 
 pass() { passed=$((passed + 1)); }
@@ -350,7 +350,7 @@ exit 0
 END
 ended=0
 while [ "$ended" -lt 60 ]; do
-    run timeout 5 "$tree/list" 2 2 "$work/image"
+    run "$tree/list" 2 2 "$work/image"
     is_status 0 || break
     ended=$((ended + 1))
 done
