@@ -82,9 +82,9 @@ miss() {
 }
 # Whether a condition holds: test NAME CONDITION..
 holds() {
-    what=$1
+    sentence=$1
     shift
-    if "$@"; then pass; else miss "$what (status $status)"; fi
+    if "$@"; then pass; else miss "$sentence (status $status)"; fi
 }
 is_status() { [ "$status" -eq "$1" ]; }
 is_out() { printf '%b' "$1" | cmp -s - "$work/out"; }
