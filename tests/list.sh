@@ -316,13 +316,13 @@ holds 'a long file: nothing else is said' is_silent
 run sh -c 'trap "" PIPE; exec "$@"' sh "$tree/list" 2 2 "$work/long"
 holds 'a long file without the signal: status 1' is_status 1
 holds 'a long file without the signal: the refusal' is_out 'refused 2 at 0\n'
-# A file that can be opened and not be read: no listing of its first bytes.
+# A file whose bytes cannot be read, though it looks readable: no listing of its first bytes.
 answer "$two"
-if [ -r /proc/self/mem ]; then
-    run "$tree/list" 2 2 /proc/self/mem
+if [ -r "/proc/$$/mem" ]; then
+    run "$tree/list" 2 2 "/proc/$$/mem"
     holds 'a file that fails while it is read: status 2' is_status 2
     holds 'a file that fails while it is read: nothing is listed' is_out ''
-    holds 'a file that fails while it is read: it is named' has err "$tree/list: cannot read the file /proc/self/mem"
+    holds 'a file that fails while it is read: it is named' has err "$tree/list: cannot read the file /proc/$$/mem"
 fi
 
 # ---- the repository's own crates: those that the program needs, each once, and no other
