@@ -381,25 +381,26 @@ installed() {
     [ -z "$(what_is_in "$prefix")" ] || { echo 'uninstall leaves:'; what_is_in "$prefix"; return 1; }
 }
 
-# The files go below DESTDIR, into GNU's folders, and boardid.pc names the folders without it. A second install of the same leaves the same.
+# The files go below DESTDIR, into GNU's folders, and boardid.pc names the folders without it. A second install of the same leaves the same. The prefix is a folder of the
+# tests too, which stays away, so that nothing is harmed where DESTDIR is forgotten.
 staged() {
-    local folder=$room/staged pc
-    install_here PREFIX=/opt/board "DESTDIR=$folder" || return 1
-    [ -f "$folder/opt/board/lib/libboardid.a" ] && [ -f "$folder/opt/board/include/boardid.h" ] &&
-        [ -f "$folder/opt/board/share/doc/boardid/C-INTERFACE.md" ] || return 1
-    ! grep -r -F "$room" "$folder/opt/board/lib/pkgconfig" || return 1
-    what_is_in "$folder" >"$room/once" && install_here prefix=/opt/board "DESTDIR=$folder" && diff "$room/once" <(what_is_in "$folder") || return 1
-    make_without_kit uninstall prefix=/opt/board "DESTDIR=$folder" && [ -z "$(what_is_in "$folder")" ] || return 1
-    install_here prefix=/usr exec_prefix=/usr libdir=/usr/lib/some-where includedir=/usr/include/here docdir=/usr/share/doc/libboardid-dev "DESTDIR=$folder" || return 1
-    pc=$folder/usr/lib/some-where/pkgconfig/boardid.pc
+    local folder=$room/staged real=$room/real pc
+    install_here "PREFIX=$real/board" "DESTDIR=$folder" || return 1
+    [ -f "$folder$real/board/lib/libboardid.a" ] && [ -f "$folder$real/board/include/boardid.h" ] &&
+        [ -f "$folder$real/board/share/doc/boardid/C-INTERFACE.md" ] || return 1
+    ! grep -r -F "$room" "$folder$real/board/lib/pkgconfig" || return 1
+    what_is_in "$folder" >"$room/once" && install_here "prefix=$real/board" "DESTDIR=$folder" && diff "$room/once" <(what_is_in "$folder") || return 1
+    make_without_kit uninstall "prefix=$real/board" "DESTDIR=$folder" && [ -z "$(what_is_in "$folder")" ] || return 1
+    install_here "prefix=$real/usr" "libdir=$real/usr/lib/some-where" "includedir=$real/usr/include/here" "docdir=$real/usr/share/doc/libboardid-dev" "DESTDIR=$folder" || return 1
+    pc=$folder$real/usr/lib/some-where/pkgconfig/boardid.pc
     cat "$pc"
     grep -q -x -F "prefix=\${pcfiledir}/../../.." "$pc" && grep -q -x -F "libdir=\${prefix}/lib/some-where" "$pc" &&
-        grep -q -x -F "includedir=\${prefix}/include/here" "$pc" && [ -f "$folder/usr/share/doc/libboardid-dev/LICENSE" ] || return 1
-    install_here PREFIX=/opt/board LIBDIR=/srv/lib INCLUDEDIR=/srv/include DOCDIR=/srv/doc "DESTDIR=$folder" || return 1
-    pc=$folder/srv/lib/pkgconfig/boardid.pc
+        grep -q -x -F "includedir=\${prefix}/include/here" "$pc" && [ -f "$folder$real/usr/share/doc/libboardid-dev/LICENSE" ] || return 1
+    install_here "PREFIX=$real/board" "LIBDIR=$real/srv/lib" "INCLUDEDIR=$real/srv/include" "DOCDIR=$real/srv/doc" "DESTDIR=$folder" || return 1
+    pc=$folder$real/srv/lib/pkgconfig/boardid.pc
     cat "$pc"
-    grep -q -x 'prefix=/opt/board' "$pc" && grep -q -x 'libdir=/srv/lib' "$pc" && grep -q -x 'includedir=/srv/include' "$pc" &&
-        [ -f "$folder/srv/include/boardid/edition-1/boardid.h" ] && [ -f "$folder/srv/doc/LICENSE" ]
+    grep -q -x -F "prefix=$real/board" "$pc" && grep -q -x -F "libdir=$real/srv/lib" "$pc" && grep -q -x -F "includedir=$real/srv/include" "$pc" &&
+        [ -f "$folder$real/srv/include/boardid/edition-1/boardid.h" ] && [ -f "$folder$real/srv/doc/LICENSE" ] && [ ! -e "$real" ]
 }
 
 # Where there is no archive make install says so, and installs nothing.
@@ -413,7 +414,7 @@ copy_of_sources() {
     mkdir -p "$1/crates/boardid/src" "$1/command" "$1/man" "$1/completions" && cp -r Makefile LICENSE include library examples samples docs "$1" || return 1
     echo 'boardid:' >"$1/crates.txt"
     echo 'fn boardid_check' >"$1/crates/boardid/src/lib.rt"
-    printf '#include <boardid.h>\n#include <jansson.h>\n#include "own.h"\nint main(void) { return json_is_true(json_false()) || own; }\n' >"$1/command/main.c"
+    printf '#include <boardid.h>\n#include <jansson.h>\n#include "own.h"\nint main(void) { return json_is_true(json_false()) || !boardid_check_image(2, 0, 0) || own; }\n' >"$1/command/main.c"
     echo 'enum { own = 0 };' >"$1/command/own.h"
     printf 'boardid(1)\n\n# NAME\n\nboardid - a page\n' >"$1/man/boardid.1.scd"
     printf 'boardid(3)\n\n# NAME\n\nboardid - a page\n' >"$1/man/boardid.3.scd"
@@ -432,23 +433,23 @@ make_twice() {
     ! grep -v -e 'is left out' -e 'are left out' "$room/second" || { echo 'make says something a second time'; return 1; }
     find "$copy/target" -type f ! -name '*.time' -exec sh -c '[ "$1" -nt "$1.time" ] && echo "$1 is made a second time"' - {} \; >"$room/again"
     ! grep . "$room/again" || return 1
-    make_without_kit -C "$copy" install prefix=/usr "DESTDIR=$copy/to" && cmp "$lib" "$copy/to/usr/lib/libboardid.a" || return 1
+    make_without_kit -C "$copy" install "prefix=$copy/to" && cmp "$lib" "$copy/to/lib/libboardid.a" || return 1
     make_without_kit -C "$copy" clean && [ ! -e "$copy/target/c" ] && [ ! -e "$copy/target/man" ] && [ -f "$copy/target/staticlib/libboardid.a" ] || return 1
     echo 'fn boardid_more' >>"$copy/crates/boardid/src/lib.rt"
     refuses make_without_kit -C "$copy" shared && rm -f "$room/no_kit/called" || return 1
-    make_without_kit -C "$copy" install prefix=/usr "DESTDIR=$copy/to"
+    make_without_kit -C "$copy" install "prefix=$copy/to"
 }
 
 # The command and the manual pages, where what they need is there; where it is not, make says so and makes the rest, and make install leaves them out. A header of the command
 # that changes makes it anew.
 parts_left_out() {
-    local copy=$room/parts name all=(usr/bin/boardid usr/share/man/man1/boardid.1 usr/share/man/man3/boardid.3 usr/share/bash-completion/completions/boardid)
+    local copy=$room/parts name all=(bin/boardid share/man/man1/boardid.1 share/man/man3/boardid.3 share/bash-completion/completions/boardid)
     copy_of_sources "$copy" || return 1
     make_without_kit -C "$copy" "LIB=$lib" PKG_CONFIG=false SCDOC=no_such_scdoc >"$room/said" 2>&1 || { cat "$room/said"; return 1; }
     grep -q '^The command is left out: .*jansson' "$room/said" && grep -q '^The manual pages are left out: .*no_such_scdoc' "$room/said" || return 1
     [ -x "$copy/target/c/list" ] && [ -f "$copy/target/c/libboardid.so" ] && [ ! -e "$copy/target/c/boardid" ] || return 1
-    make_without_kit -C "$copy" "LIB=$lib" PKG_CONFIG=false SCDOC=no_such_scdoc prefix=/usr "DESTDIR=$copy/less" install >"$room/said" 2>&1 || return 1
-    grep -q '^The command is left out' "$room/said" && [ -f "$copy/less/usr/lib/libboardid.so" ] || return 1
+    make_without_kit -C "$copy" "LIB=$lib" PKG_CONFIG=false SCDOC=no_such_scdoc "prefix=$copy/less" install >"$room/said" 2>&1 || return 1
+    grep -q '^The command is left out' "$room/said" && [ -f "$copy/less/lib/libboardid.so" ] || return 1
     for name in "${all[@]}"; do
         [ ! -e "$copy/less/$name" ] || { echo "$name is installed"; return 1; }
     done
@@ -456,11 +457,11 @@ parts_left_out() {
         echo 'left out: there is no jansson or no scdoc'
         return 0
     fi
-    make_without_kit -C "$copy" "LIB=$lib" prefix=/usr "DESTDIR=$copy/more" install && "$copy/more/usr/bin/boardid" || return 1
+    make_without_kit -C "$copy" "LIB=$lib" "prefix=$copy/more" install && "$copy/more/bin/boardid" || return 1
     for name in "${all[@]}"; do
         [ -f "$copy/more/$name" ] || { echo "$name is not installed"; return 1; }
     done
-    ! readelf -d "$copy/more/usr/bin/boardid" | grep 'NEEDED.*libboardid' || { echo 'the command needs the shared library'; return 1; }
+    ! readelf -d "$copy/more/bin/boardid" | grep 'NEEDED.*libboardid' || { echo 'the command needs the shared library'; return 1; }
     touch -d '1 hour ago' "$copy/command/"* "$copy/target/c/command/"* && echo 'enum { own = 1 };' >"$copy/command/own.h" || return 1
     make_without_kit -C "$copy" "LIB=$lib" target/c/boardid && refuses "$copy/target/c/boardid"
 }
