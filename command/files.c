@@ -166,10 +166,21 @@ static bool write_all(int fd, const uint8_t *bytes, size_t length, off_t place)
     return true;
 }
 
-/* Brings a file to the disk. A file that has no such thing, as many devices, is taken. */
+/* Brings a file to the disk. */
+static bool sync_all(int fd)
+{
+    while (fsync(fd) != 0) {
+        if (errno != EINTR) {
+            return false;
+        }
+    }
+    return true;
+}
+
+/* The same of a file that may have no such thing, as many devices. */
 static bool sync_file(int fd)
 {
-    return fsync(fd) == 0 || errno == EINVAL || errno == ENOTSUP;
+    return sync_all(fd) || errno == EINVAL || errno == ENOTSUP;
 }
 
 /* Reads back the runs that were written, and compares them. */
@@ -250,7 +261,7 @@ static int write_in_place(struct job *job, const struct input *input, const uint
     if (why == 0 && !sync_file(fd)) {
         why = errno;
     }
-    if (close(fd) != 0 && why == 0) {
+    if (close(fd) != 0 && errno != EINTR && why == 0) {
         why = errno;
     }
     sigprocmask(SIG_SETMASK, &before, NULL);
@@ -358,11 +369,11 @@ static enum trouble put_in_place(const struct input *input, const struct way *wa
     }
     if (!keep_owner(fd, input)) {
         trouble = NO_OWNER;
-    } else if (!write_all(fd, bytes, length, -1) || fsync(fd) != 0) {
+    } else if (!write_all(fd, bytes, length, -1) || !sync_all(fd)) {
         trouble = NOT_WRITTEN;
     }
     *why = errno;
-    if (close(fd) != 0 && trouble == NO_TROUBLE) {
+    if (close(fd) != 0 && errno != EINTR && trouble == NO_TROUBLE) {
         *why = errno;
         trouble = NOT_WRITTEN;
     }

@@ -105,7 +105,7 @@ static int usage_word(struct job *job, const char *before, const char *word, con
 /* Prints an object to standard output, and gives it back. */
 void print_json(json_t *object)
 {
-    char *text = json_dumps(object, JSON_INDENT(2));
+    char *text = json_dumps(object, JSON_INDENT(2) | JSON_ENSURE_ASCII);
 
     if (text == NULL) {
         no_memory();

@@ -157,7 +157,7 @@ static void put_identity(struct text *text, const struct image *image,
     text_add(text, get ? " free=%02x%02x" : ", free %02x:%02x", identity.free_bytes[0],
              identity.free_bytes[1]);
     if (record->reading == BOARDID_READING_IDENTITY_WITH_BATCH) {
-        text_add(text, get ? " batch=%u" : ", batch %u", boardid_record_batch(record));
+        text_add(text, get ? " batch=%04u" : ", batch %04u", boardid_record_batch(record));
     }
 }
 

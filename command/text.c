@@ -130,33 +130,15 @@ static size_t utf8_length(const uint8_t *bytes, uint32_t *character)
     return length;
 }
 
-/* Whether a terminal may be sent a character: no control, and none that turns the writing. */
-static bool is_quiet(uint32_t character)
-{
-    return character >= 0x20 && !(character >= 0x7F && character < 0xA0) && character != 0x061C &&
-           !(character >= 0x200B && character <= 0x200F) &&
-           !(character >= 0x2028 && character <= 0x202E) &&
-           !(character >= 0x2060 && character <= 0x206F) && character != 0xFEFF;
-}
-
-/* Adds a word of the command line. What is no character or none for a terminal goes as \x1b. */
+/* Adds a word of the command line. What is no printable ASCII goes as \x1b. */
 void text_word(struct text *text, const char *word)
 {
-    const uint8_t *bytes = (const uint8_t *)word;
-
-    while (*bytes != 0) {
-        uint32_t character = 0;
-        size_t length = utf8_length(bytes, &character);
-
-        if (length != 0 && is_quiet(character)) {
-            text_put(text, (const char *)bytes, length);
+    for (; *word != '\0'; word++) {
+        if (*word < 0x20 || *word > 0x7E) {
+            text_add(text, "\\x%02x", (uint8_t)*word);
         } else {
-            length = length == 0 ? 1 : length;
-            for (size_t i = 0; i < length; i++) {
-                text_add(text, "\\x%02x", bytes[i]);
-            }
+            text_put(text, word, 1);
         }
-        bytes += length;
     }
 }
 
@@ -277,7 +259,10 @@ bool read_hex(const char *word, uint8_t *bytes, size_t room, size_t *length)
     return true;
 }
 
-/* A word of the command line as JSON. What is no character goes as \x1b, in letters. */
+/*
+ * A word of the command line as JSON. What is no character, and 7Fh, which JSON would have as it
+ * is, goes as \x7f, in letters.
+ */
 json_t *json_word(const char *word)
 {
     const uint8_t *bytes = (const uint8_t *)word;
@@ -288,7 +273,7 @@ json_t *json_word(const char *word)
         uint32_t character = 0;
         size_t length = utf8_length(bytes, &character);
 
-        if (length == 0) {
+        if (length == 0 || character == 0x7F) {
             length = 1;
             text_add(&text, "\\x%02x", bytes[0]);
         } else {
