@@ -191,6 +191,7 @@ struct image {
 int find_room(struct job *job, const struct input *input, size_t *offset, size_t *room);
 int find_format(struct job *job, const uint8_t *bytes, size_t room, uint64_t offset,
                 uint32_t *format);
+int explain_or_blank(struct job *job, const struct image *image, uint64_t answer);
 int list_image(struct job *job, struct image *image);
 int open_image(struct job *job, struct input *input, struct image *image);
 int ask_string(const struct image *image, uint32_t number, struct boardid_part *part);

@@ -61,7 +61,8 @@ int explain_not_named(struct job *job, const struct image *image, uint32_t code)
     } else {
         text_add(&problem->message, "no edition names code ");
         put_code(&problem->message, image->format, code);
-        text_add(&problem->message, ", so it is kept as it is, and not written");
+        text_add(&problem->message, ", so it is %s",
+                 problem->entry >= 0 ? "kept as it is" : "not written");
         hint(job, "boardid names -f %s lists those that are named", format_word(image->format));
     }
     return STATUS_REFUSED;

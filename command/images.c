@@ -111,6 +111,18 @@ int find_format(struct job *job, const uint8_t *bytes, size_t room, uint64_t off
     return STATUS_REFUSED;
 }
 
+/* Says why the library refuses an image, or that it is blank. */
+int explain_or_blank(struct job *job, const struct image *image, uint64_t answer)
+{
+    const uint32_t number = boardid_answer_number(answer);
+
+    if (number != BOARDID_REFUSED_EDITION && number != BOARDID_REFUSED_FORMAT &&
+        is_blank(image->bytes, image->room)) {
+        return blank(job, image->bytes, image->room);
+    }
+    return explain_image(job, image, answer);
+}
+
 /* Lists an image: fills its records. A refusal is explained. */
 int list_image(struct job *job, struct image *image)
 {
@@ -119,13 +131,7 @@ int list_image(struct job *job, struct image *image)
     uint32_t n;
 
     if (boardid_answer_number(answer) != 0) {
-        const uint32_t number = boardid_answer_number(answer);
-
-        if (number != BOARDID_REFUSED_EDITION && number != BOARDID_REFUSED_FORMAT &&
-            is_blank(image->bytes, image->room)) {
-            return blank(job, image->bytes, image->room);
-        }
-        return explain_image(job, image, answer);
+        return explain_or_blank(job, image, answer);
     }
     image->count = boardid_answer_count(answer);
     records = memory((size_t)image->count * BOARDID_RECORD_SIZE);

@@ -342,7 +342,7 @@ static int no_entry(struct job *job, const struct image *image, const char *word
             text_add(&text, "; it has %u, #0 to #%u", image->count, image->count - 1);
         }
     } else {
-        text_add(&text, "no entry ");
+        text_add(&text, "no entry %s", *word == '\0' ? "with an empty name" : "");
         text_word(&text, word);
         text_add(&text, "; it has: %s", image->count == 0 ? "none" : "");
         for (n = 0; n < image->count && n < 64; n++) {

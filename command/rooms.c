@@ -174,10 +174,9 @@ static int explain_room(struct job *job, const struct input *input, uint32_t boa
         const struct image image = {.format = format, .edition = job->options.edition,
                                     .bytes = body->bytes, .room = body->length};
 
-        explain_image(job, &image, answer);
         job->problem.file = body->name;
+        return explain_or_blank(job, &image, answer);
     }
-    return STATUS_REFUSED;
 }
 
 /* Reads a room file, and sees that the library takes all of it. */
