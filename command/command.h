@@ -79,10 +79,10 @@ struct options {
 
 /* Why something is not done. */
 struct problem {
-    int number;     /* the refusal's; -1 where it has none */
-    int64_t place;  /* in the file; -1 where none is known */
-    int64_t entry;  /* its number; -1 where none is known */
-    json_t *name;   /* the entry's, or null */
+    int number;       /* the refusal's; -1 where it has none */
+    int64_t place;    /* in the file; -1 where none is known */
+    int64_t entry;    /* its number; -1 where none is known */
+    json_t *name;     /* the entry's, or null */
     const char *file; /* the file that it is about; null: the first of the command */
     struct text message, hint;
 };
@@ -241,7 +241,6 @@ void put_entry_label(struct text *text, const struct image *image, uint32_t n);
 json_t *json_name(const struct image *image, uint32_t code, const uint8_t *key, size_t key_length);
 bool name_fits(uint32_t format, uint32_t code, bool named, const char *word);
 bool entry_fits(const struct image *image, uint32_t n, const char *word);
-bool read_code(uint32_t format, const char *word, uint32_t *code);
 int find_entry(struct job *job, const struct image *image, const char *word, uint32_t *n);
 int find_code(struct job *job, const struct image *image, const char *word, uint32_t *code);
 json_t *json_shorts(uint32_t format, uint32_t code);
@@ -259,7 +258,6 @@ enum type record_type(const struct image *image, const struct boardid_record *re
 void show_value(struct text *text, const struct image *image, uint32_t n, enum style style);
 json_t *entry_json(const struct image *image, uint32_t n);
 json_t *string_json(const struct image *image, uint32_t number);
-void put_revision(struct text *text, uint32_t major, uint32_t minor);
 
 /* ---- explain.c ----------------------------------------------------------------------------- */
 
@@ -284,8 +282,6 @@ void at_entry(struct job *job, const struct image *image, int64_t entry, uint32_
 int explain_missing(struct job *job, uint32_t format, const bool there[256]);
 
 /* ---- values.c ------------------------------------------------------------------------------ */
-
-enum { VALUE_MAX = BOARDID_IMAGE_MAX + 1 }; /* the most bytes of a typed value that are taken */
 
 /* The value of an identity as it was typed. Null and false: left out. */
 struct typed_identity {
@@ -314,9 +310,6 @@ struct pool {
     int taken; /* a string that the entry counts by now, which may not be rewritten; -1: none */
 };
 
-int pool_find(const struct pool *pool, const uint8_t *bytes, size_t length);
-bool pool_string(const struct pool *pool, uint32_t number, size_t *place, size_t *length);
-size_t pool_rest(const struct pool *pool);
 void pool_of(const struct image *image, struct pool *pool, int64_t *entry);
 int pool_number(struct job *job, const struct image *image, struct pool *pool, const char *string,
                 int64_t own, int which, uint8_t *number);

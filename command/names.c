@@ -262,7 +262,7 @@ static bool is_title(const char *title, const char *word)
 }
 
 /* Reads a code: hexadecimal after 0x, or decimal, which VPD does not have. */
-bool read_code(uint32_t format, const char *word, uint32_t *code)
+static bool read_code(uint32_t format, const char *word, uint32_t *code)
 {
     const bool hex = word[0] == '0' && (word[1] == 'x' || word[1] == 'X');
     uint64_t number;

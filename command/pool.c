@@ -4,7 +4,7 @@
 #include <string.h>
 
 /* The place and the length of a string in the pool; false where there is none of that number. */
-bool pool_string(const struct pool *pool, uint32_t number, size_t *place, size_t *length)
+static bool pool_string(const struct pool *pool, uint32_t number, size_t *place, size_t *length)
 {
     size_t begin = 0, i;
 
@@ -22,7 +22,7 @@ bool pool_string(const struct pool *pool, uint32_t number, size_t *place, size_t
 }
 
 /* How many bytes at the pool's end belong to no string. */
-size_t pool_rest(const struct pool *pool)
+static size_t pool_rest(const struct pool *pool)
 {
     size_t end = pool->length;
 
@@ -33,7 +33,7 @@ size_t pool_rest(const struct pool *pool)
 }
 
 /* The number of the first string that is that text; -1: there is none. */
-int pool_find(const struct pool *pool, const uint8_t *bytes, size_t length)
+static int pool_find(const struct pool *pool, const uint8_t *bytes, size_t length)
 {
     size_t place, found;
     uint32_t number;

@@ -132,7 +132,7 @@ static void put_flags(struct text *text, uint32_t flags, const char *between)
 }
 
 /* Adds a revision: 05.12, or 0A.12 of the major numbers 128 to 153. */
-void put_revision(struct text *text, uint32_t major, uint32_t minor)
+static void put_revision(struct text *text, uint32_t major, uint32_t minor)
 {
     if (major >= 128 && major <= 153) {
         text_add(text, "0%c.%02u", (char)('A' + (major - 128)), minor);
