@@ -449,6 +449,7 @@ static int explain_missing_entry(struct job *job, const struct image *image)
         place += frame.length;
     }
     explain_missing(job, image->format, there);
+    job->problem.place = (int64_t)image->offset;
     hint(job, "boardid write makes such an image anew");
     return STATUS_REFUSED;
 }
