@@ -109,11 +109,9 @@ WRONG: list[list[Word]] = [
 
 
 @pytest.mark.parametrize("line", WRONG, ids=lambda line: " ".join(str(w).split("/")[-1] for w in line) or "nothing")
-@pytest.mark.parametrize("json", [False, True], ids=["words", "json"])
-def test_usage_errors(line: list[Word], json: bool, tmp_path: Path) -> None:
-    if json and not line:
-        pytest.skip("there is nothing to add --json to")
-    result = run(*line, *(["--json"] if json else []), stdin=sample("onie.bin"), cwd=tmp_path)
+@pytest.mark.parametrize("more", [[], ["--json"]], ids=["words", "json"])
+def test_usage_errors(line: list[Word], more: list[Word], tmp_path: Path) -> None:
+    result = run(*line, *more, stdin=sample("onie.bin"), cwd=tmp_path)
     assert result.status == USAGE, result
     assert result.out == b""
     assert "usage" in result.said.lower(), result.said
