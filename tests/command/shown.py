@@ -111,7 +111,7 @@ def got(image: f.Image, entry: f.Entry) -> str:
             f"free={value[4:6].hex()}",
         ]
         if len(value) == 8:
-            words.append(f"batch={value[6] + 256 * value[7]}")
+            words.append(f"batch={value[6] + 256 * value[7]:04d}")
         return " ".join(words)
     if kind == "date":
         return _date(value)

@@ -75,7 +75,7 @@ def in_table(image: f.Image, entry: f.Entry) -> str:
         serial, part = shown.string_at(image, value[0]), shown.string_at(image, value[1])
         assert serial is not None and part is not None
         free = f"{value[4]:02x}:{value[5]:02x}"
-        batch = f", batch {value[6] + 256 * value[7]}" if len(value) == 8 else ""
+        batch = f", batch {value[6] + 256 * value[7]:04d}" if len(value) == 8 else ""
         return (
             f'serial "{shown.escaped(serial)}", part "{shown.escaped(part)}", '
             f"revision {shown.revision(value[2], value[3])}, free {free}{batch}"
