@@ -123,6 +123,11 @@ def _parser() -> argparse.ArgumentParser:
     return parser
 
 
+def _shown(file: str) -> str:
+    """What a file is called for people."""
+    return "standard input" if file == "-" else file
+
+
 def _read(file: str) -> bytes:
     """The file's bytes, or standard input's."""
     try:
@@ -168,7 +173,7 @@ def _list(options: argparse.Namespace) -> str:
             options.file, format, options.edition, options.offset, length, len(data), listed
         )
         return json.dumps(made, indent=2)
-    return table(options.file, format, options.edition, length, len(data), listed)
+    return table(_shown(options.file), format, options.edition, length, len(data), listed)
 
 
 def _blank(blank: Blank) -> _Failed:
@@ -216,7 +221,8 @@ def main(arguments: Optional[List[str]] = None) -> int:
     except _Failed as failed:
         status = failed.status
         text = json.dumps(failed.object(json_file(options.file)), indent=2) if options.json else ""
-        print(f"boardid: {escaped(options.file)}: {escaped(failed.message)}", file=sys.stderr)
+        shown = escaped(_shown(options.file))
+        print(f"boardid: {shown}: {escaped(failed.message)}", file=sys.stderr)
         if failed.hint is not None:
             print(f"  hint: {failed.hint}", file=sys.stderr)
     try:

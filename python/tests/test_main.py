@@ -89,7 +89,7 @@ def test_table_of_each_sample(image_name: str) -> None:
 def test_a_table() -> None:
     ended = run("-", given=sample("tiny.bin"))
     assert ended.stdout.decode().splitlines()[:5] == [
-        "-: Tiny EEPROM version 2, edition 4, 8 entries, 74 of 74 bytes",
+        "standard input: Tiny EEPROM version 2, edition 4, 8 entries, 74 of 74 bytes",
         "entry  code  name                                   value",
         "   #0  0x10  Serial number                          S4711",
         "   #1  0x11  Factory test flags                     3 of 4: assembly, configuration, burn-in",
