@@ -361,7 +361,7 @@ page_compiles() {
     # shellcheck disable=SC2016 # expanded inside
     {
         shell 'gcc -std=c99 -Wall -Wextra -Wpedantic -Wconversion -Wshadow -Werror $(pkg-config --cflags boardid) page.c -o page-shared $(pkg-config --libs boardid)'
-        shell 'gcc -std=c99 $(pkg-config --cflags boardid) page.c -o page-archive $(pkg-config --libs-only-L boardid) -l:libboardid.a'
+        shell 'gcc -std=c99 $(pkg-config --cflags boardid) page.c $(pkg-config --variable=libdir boardid)/libboardid.a -o page-archive'
         shell 'gcc -std=c99 -static $(pkg-config --static --cflags boardid) page.c -o page-static $(pkg-config --static --libs boardid)'
     }
     shell './page-shared <onie.bin' >"$room/page.out"
