@@ -181,7 +181,7 @@ def value_words(entry: Entry) -> str:
     if isinstance(value, Flags):
         return f"{value.passed} of 4: " + ", ".join(str(value).split(","))
     if isinstance(value, Identity):
-        batch = "" if value.batch is None else f", batch {value.batch}"
+        batch = "" if value.batch is None else f", batch {value.batch:04d}"
         return (
             f"serial {_quoted(value.serial)}, part {_quoted(value.part)}, "
             f"revision {value.revision}, free {value.free.hex(':')}{batch}"

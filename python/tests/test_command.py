@@ -1,4 +1,4 @@
-"""The JSON of `python3 -m boardid` against that of the command, where the command is built."""
+"""The JSON and the table of `python3 -m boardid` against those of the command, where it is built."""
 
 from __future__ import annotations
 
@@ -60,6 +60,13 @@ def test_every_sample(image_name: str, edition: str) -> None:
     status = same("--edition", edition, path)
     onie = image_name in ("onie.bin", "amplifier.bin")
     assert status == (1 if edition == "5" or (onie and edition in "12") else 0)
+
+
+@pytest.mark.parametrize("edition", ["1", "2", "3", "4"])
+def test_every_table(image_name: str, edition: str) -> None:
+    words = ("--edition", edition, str(ROOT / "samples" / image_name))
+    theirs = subprocess.run([str(COMMAND), "list", *words], capture_output=True, check=False)
+    assert run(*words).stdout == theirs.stdout
 
 
 def test_options(tmp_path: Path) -> None:
