@@ -266,18 +266,19 @@ typedef char itself[BOARDID_EDITION == $edition ? 1 : -1];"
     done
 }
 
-# brought_by EDITION NAME..: the headers from an edition on have these names, and those before have none of them.
+# brought_by EDITION NAME..: the headers from an edition on have these names, all of them in one file, and those before have none of them, each in a file of its own.
 brought_by() {
-    local since=$1 name edition
+    local since=$1 name edition all
     shift
-    for name in "$@"; do
-        for edition in "${editions[@]}"; do
-            if [ "$edition" -ge "$since" ]; then
-                try "$cc: edition $edition has $name" compiles "$edition" c99 $'#include <boardid.h>\nvoid use(void);\nvoid use(void) { (void)'"$name; }"
-            else
+    all=$(printf ' (void)%s;' "$@")
+    for edition in "${editions[@]}"; do
+        if [ "$edition" -ge "$since" ]; then
+            try "$cc: edition $edition has what edition $since brings" compiles "$edition" c99 $'#include <boardid.h>\nvoid use(void);\nvoid use(void) {'"$all }"
+        else
+            for name in "$@"; do
                 try "$cc: edition $edition has no $name" refuses compiles "$edition" c99 $'#include <boardid.h>\nvoid use(void);\nvoid use(void) { (void)'"$name; }"
-            fi
-        done
+            done
+        fi
     done
 }
 
