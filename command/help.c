@@ -23,10 +23,12 @@ const struct command commands[] = {
      "  flags      assembly,configuration,burn-in,system, any of them, or none\n"
      "  identity   serial=S part=P revision=0A.12 free=2020 batch=1234, any of them\n"
      "  bytes      hexadecimal, 0a1b; of every other kind with --hex\n"
-     "A VALUE that begins with - stands after --.\n"},
+     "A VALUE that begins with - stands after --.\n"
+     "  -x, --hex          VALUE is bytes in hexadecimal, 0a1b, 0a:1b or 0a 1b\n"},
     {"add", "feoljxnisc", 3, 3, command_add, "[OPTIONS] FILE NAME VALUE", "add an entry",
      "NAME is a document's name, a short name or a code; in VPD it is the key. VALUE is typed as\n"
      "in set.\n"
+     "  -x, --hex          VALUE is bytes in hexadecimal, 0a1b, 0a:1b or 0a 1b\n"
      "  -c, --code N       VPD: the type of the entry, else 0x01\n"},
     {"remove", "feoljnis", 2, 2, command_remove, "[OPTIONS] FILE NAME", "remove an entry",
      "NAME is as in get.\n"},
@@ -54,7 +56,7 @@ const struct command commands[] = {
      "BOARD is a number, 0 to 4294967295. BODY is a file with what was read from the board's\n"
      "chip; its format is detected, or that of -f. add makes FILE where it is not there. fetch\n"
      "writes the body to the file OUT; - is standard output.\n"},
-    {"help", "", 0, 1, command_help, "[COMMAND]", "print the help of a command, or this", ""},
+    {"help", "", 0, 1, command_help, "[COMMAND]", "print the help of a command, or of all", ""},
     {NULL, NULL, 0, 0, NULL, NULL, NULL, NULL},
 };
 
