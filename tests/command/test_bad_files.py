@@ -197,15 +197,44 @@ def test_cut(name: str) -> None:
 
 
 @pytest.mark.long
-@pytest.mark.parametrize("name", NAMES + ["room.bin"])
+@pytest.mark.parametrize("name", NAMES)
 def test_cut_at_every_length(name: str) -> None:
     data = sample(name)
-    last = 8963 if name == "room.bin" else f.read(format_of(name), 4, data).length + 8
-    for length in range(0, min(last, len(data)) + 1, 7 if name == "room.bin" else 1):
+    last = f.read(format_of(name), 4, data).length + 8
+    for length in range(min(last, len(data)) + 1):
         compare(data[:length])
-        for words in READS:
-            run(*line(words, "-"), stdin=data[:length])
-            run(*line(words, "-"), "-j", stdin=data[:length])
+        every_read(data[:length])
+    for length in range(last, len(data), 37):
+        compare(data[:length])
+
+
+@pytest.mark.long
+def test_room_file_cut_at_every_length() -> None:
+    data = sample("room.bin")
+    for length in range(1, len(data)):
+        result = run("room", "list", "-j", "-", stdin=data[:length])
+        assert (result.status, result.error["number"]) == (REFUSED, 21), length
+        if length % 100 == 0:
+            compare(data[:length])
+            every_read(data[:length])
+
+
+@pytest.mark.long
+def test_room_file_damaged() -> None:
+    data = sample("room.bin")
+    numbers = random.Random("room")
+    places = list(range(120)) + numbers.sample(range(120, len(data)), 600)
+    for place in places:
+        now = data[:place] + bytes([data[place] ^ 1 << numbers.randrange(8)]) + data[place + 1 :]
+        result = run("room", "list", "-j", "-", stdin=now)
+        try:
+            boards = f.room_read(4, now)
+        except f.Refused as refused:
+            assert (result.status, result.error["number"]) == (REFUSED, refused.number), place
+            if refused.number in (5, 6, 7, 8, 9, 10):
+                assert result.error["place"] == refused.place, place
+        else:
+            assert [row["board"] for row in result.json["boards"]] == [board.number for board in boards]
 
 
 def damaged(name: str, at: int, byte: int) -> bytes:

@@ -411,6 +411,25 @@ def test_changes_of_a_blank_chip(tmp_path: Path) -> None:
     both(path, wanted, "add", "-f", "vpd", "k", "X")
 
 
+def test_an_image_in_the_middle_of_a_megabyte(copy: Copy) -> None:
+    path = copy("onie.bin")
+    front, back = bytes(range(256)) * 200, bytes(reversed(range(256))) * 4000
+    path.write_bytes(front + sample("onie.bin") + back)
+    wanted = front + f.edit(f.ONIE, 4, sample("onie.bin"), 2, b"NEW") + back
+    both(path, wanted, "set", "-o", len(front), "-l", "512", "serial", "NEW")
+    grown = front + f.edit_into(f.ONIE, 4, sample("onie.bin") + back[:100], 2, b"NEW", 612) + back[100:]
+    path.write_bytes(front + sample("onie.bin") + back)
+    both(path, grown, "set", "-o", len(front), "-l", "612", "serial", "NEW")
+
+
+def test_sizes_that_no_image_has(copy: Copy) -> None:
+    path = copy("onie.bin")
+    refused(path, 2, None, "set", "-s", "65537", "serial", "X")
+    refused(path, 12, None, "set", "-s", "0", "serial", "X")
+    assert run("set", "-s", "65536", path, "serial", "X").status == DONE
+    assert path.read_bytes() == f.edit_into(f.ONIE, 4, sample("onie.bin"), 2, b"X", 65536)
+
+
 def test_filters_say_it_on_standard_error() -> None:
     result = run("set", "-", "serial", "NEW", stdin=sample("onie.bin"), raw=True)
     assert result.out == f.edit(f.ONIE, 4, sample("onie.bin"), 2, b"NEW")

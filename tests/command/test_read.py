@@ -405,6 +405,13 @@ def test_names(edition: int) -> None:
             assert row["type"] == code.reading
 
 
+@pytest.mark.parametrize("words, number", [(["-e", "0"], 1), (["-e", "5"], 1), (["-f", "onie", "-e", "2"], 16)])
+def test_names_refused(words: list[str], number: int) -> None:
+    result = run("names", "-j", *words)
+    assert (result.status, result.error["number"]) == (REFUSED, number)
+    assert f"refused {number}" in result.said
+
+
 @pytest.mark.parametrize("fmt", [1, 2, 3, 4])
 def test_names_of_a_format(fmt: int) -> None:
     word = f.FORMAT_WORDS[fmt]

@@ -352,6 +352,14 @@ def test_write_dry_run(tmp_path: Path) -> None:
     assert path.read_bytes() == wanted
 
 
+def test_write_to_a_part_of_a_file_that_is_not_there(tmp_path: Path) -> None:
+    for words in (["-o", "5"], ["-l", "50"], ["-i"]):
+        assert run("write", "-f", "onie", *words, tmp_path / "new", stdin=b"[]").status == FAILED, words
+    assert not os.listdir(tmp_path)
+    assert run("write", "-f", "onie", "-s", "50", "-o", "0", tmp_path / "new", stdin=b"[]").status == DONE
+    assert (tmp_path / "new").read_bytes() == f.write(f.ONIE, 4, [], 50)
+
+
 def test_write_to_and_from_what_is_no_file(tmp_path: Path) -> None:
     assert run("write", "-f", "onie", tmp_path, stdin=b"[]").status == FAILED
     assert run("write", "-f", "onie", tmp_path / "a" / "b", stdin=b"[]").status == FAILED
