@@ -2,9 +2,11 @@
 
 from __future__ import annotations
 
+import functools
 import os
 import shutil
 import subprocess
+import tempfile
 import time
 from pathlib import Path
 
@@ -33,6 +35,14 @@ printf '%s\n' "${COMPREPLY[@]}"
 """
 
 
+@functools.cache
+def commands() -> tempfile.TemporaryDirectory[str]:
+    """A folder with the command under its own name, whatever file it is."""
+    folder = tempfile.TemporaryDirectory(prefix="boardid-")
+    os.symlink(COMMAND, f"{folder.name}/boardid")
+    return folder
+
+
 def completed(*words: str, folder: Path = SAMPLES) -> set[str]:
     """What the completion offers for the last word."""
     if not COMPLETION.exists():
@@ -40,7 +50,7 @@ def completed(*words: str, folder: Path = SAMPLES) -> set[str]:
     bash = shutil.which("bash")
     if bash is None:
         pytest.skip("bash is not there")
-    path = f"{COMMAND.parent}:{os.environ.get('PATH', '/usr/bin:/bin')}"
+    path = f"{commands().name}:{os.environ.get('PATH', '/usr/bin:/bin')}"
     done = subprocess.run(
         [bash, "--norc", "--noprofile", "-c", SCRIPT, "bash", COMPLETION, "boardid", *words],
         capture_output=True,
@@ -114,11 +124,10 @@ def test_typed_in_a_shell() -> None:
     """Tabs in a bash of a terminal: a command, a file and a name with blanks."""
     if not COMPLETION.exists():
         pytest.skip("completions/boardid is not there")
-    if shutil.which("tmux") is None or shutil.which("bash") is None:
-        pytest.skip("tmux or bash is not there")
-    terminal = Terminal(f"boardid-tabs-{os.getpid()}")
-    shell = f"env PS1='$ ' PATH='{COMMAND.parent}:/usr/bin:/bin' bash --norc --noprofile"
-    terminal.tmux("new-session", "-d", "-x", "160", "-y", "50", "-c", str(SAMPLES), shell)
+    if shutil.which("bash") is None:
+        pytest.skip("bash is not there")
+    shell = f"env PS1='$ ' PATH='{commands().name}:/usr/bin:/bin' bash --norc --noprofile"
+    terminal = Terminal(SAMPLES, shell)
     try:
         terminal.say(f". {COMPLETION}")
         terminal.tmux("send-keys", "-l", "clear")
@@ -133,7 +142,7 @@ def test_typed_in_a_shell() -> None:
         assert "Serial" in typed and "Number" in typed, lines
         assert "LAB-000471" in lines and "status 0" in lines, lines
     finally:
-        terminal.tmux("kill-session")
+        terminal.close()
 
 
 def test_files_that_are_none(tmp_path: Path) -> None:

@@ -5,6 +5,7 @@ from __future__ import annotations
 import os
 import shutil
 import subprocess
+import tempfile
 import time
 from pathlib import Path
 from typing import Iterator
@@ -15,22 +16,29 @@ from running import COMMAND, ROOT
 
 
 class Terminal:
-    """A pane of tmux."""
+    """A pane of a tmux of its own, with its socket in a folder of its own."""
 
-    def __init__(self, socket: str) -> None:
-        self.socket = socket
+    def __init__(self, folder: Path, shell: str) -> None:
+        if shutil.which("tmux") is None:
+            pytest.skip("tmux is not there")
+        self.sockets = tempfile.mkdtemp(prefix="tmux-")
+        try:
+            self.tmux("new-session", "-d", "-x", "160", "-y", "50", "-n", "window", "-c", str(folder), shell)
+        except subprocess.CalledProcessError as failed:
+            shutil.rmtree(self.sockets)
+            pytest.skip(f"tmux cannot be started: {failed.stderr.decode().strip()}")
 
     def tmux(self, *words: str) -> str:
         """Runs tmux on the socket."""
         env = {key: value for key, value in os.environ.items() if key not in ("TMUX", "TMUX_PANE")}
-        done = subprocess.run(
-            ["tmux", "-L", self.socket, "-f", "/dev/null", *words],
-            capture_output=True,
-            env={**env, "TERM": "xterm", "LC_ALL": "C.UTF-8"},
-            timeout=20,
-            check=True,
-        )
-        return done.stdout.decode()
+        env |= {"TMUX_TMPDIR": self.sockets, "TERM": "xterm", "LC_ALL": "C.UTF-8", "SHELL": "/bin/sh"}
+        line = ["tmux", "-L", "boardid", "-f", "/dev/null", *words]
+        return subprocess.run(line, capture_output=True, env=env, timeout=20, check=True).stdout.decode()
+
+    def close(self) -> None:
+        """Ends the pane, and the tmux with it."""
+        self.tmux("kill-server")
+        shutil.rmtree(self.sockets)
 
     def screen(self) -> str:
         """What the pane shows, with what has scrolled off."""
@@ -58,19 +66,16 @@ class Terminal:
 
 
 @pytest.fixture
-def terminal(tmp_path: Path) -> Iterator[Terminal]:
+def terminal() -> Iterator[Terminal]:
     """A pane with a plain shell."""
-    if shutil.which("tmux") is None:
-        pytest.skip("tmux is not there")
-    one = Terminal(f"boardid-test-{os.getpid()}")
-    one.tmux("new-session", "-d", "-x", "160", "-y", "50", "-n", "window", "-c", str(ROOT), "env PS1='$ ' sh")
+    one = Terminal(ROOT, "env PS1='$ ' sh")
     try:
         one.tmux("set-option", "-g", "allow-rename", "on")
         one.tmux("select-pane", "-T", "the title before")
         time.sleep(0.2)
         yield one
     finally:
-        one.tmux("kill-session")
+        one.close()
 
 
 def test_hostile_key_on_a_screen(terminal: Terminal) -> None:
