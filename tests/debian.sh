@@ -496,7 +496,7 @@ try 'without an archive the build says so' no_archive
 try 'nocheck leaves the tests out' nocheck
 echo 'building the packages'
 try 'dpkg-buildpackage' build
-if [ "$failed" -gt 0 ]; then
+if ! compgen -G "$room/boardid_*.changes" >/dev/null; then
     finish
     exit
 fi
