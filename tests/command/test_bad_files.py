@@ -11,7 +11,7 @@ import pytest
 
 import formats as f
 import shown
-from running import BLANK, DONE, FAILED, NAMES, REFUSED, SAMPLES, Word, format_of, run, sample
+from running import BLANK, DONE, FAILED, NAMES, OTHER, REFUSED, SAMPLES, Word, format_of, open_to_all, run, sample
 
 READS: list[tuple[str, ...]] = [
     ("list", "FILE"),
@@ -74,10 +74,8 @@ class TestNoFile:
         path = tmp_path / "closed"
         path.write_bytes(sample("onie.bin"))
         path.chmod(0)
-        for folder in (tmp_path, *tmp_path.parents[:3]):
-            folder.chmod(0o755)
-        other = ["setpriv", "--reuid=65534", "--regid=65534", "--clear-groups"]
-        result = run(*line(words, path), prefix=other)
+        open_to_all(tmp_path)
+        result = run(*line(words, path), prefix=OTHER)
         assert result.status == FAILED
         assert path.read_bytes() == sample("onie.bin")
 

@@ -16,13 +16,12 @@ from typing import Callable, Optional
 import pytest
 
 import formats as f
-from running import COMMAND, DONE, FAILED, HERE, REFUSED, SAMPLES, USAGE, Result, Word, plain, run, sample, words
+from running import COMMAND, DONE, FAILED, HERE, OTHER, REFUSED, SAMPLES, USAGE, Result, Word, open_to_all, plain, run, sample, words
 
 Copy = Callable[[str], Path]
 OLD = sample("onie.bin")
 NEW = f.edit(f.ONIE, 4, OLD, 2, b"NEW-SERIAL-1")
 SET: list[Word] = ["serial", "NEW-SERIAL-1"]
-OTHER = ["setpriv", "--reuid=65534", "--regid=65534", "--clear-groups"]
 
 
 def needs_root(tool: Optional[str] = None) -> None:
@@ -31,12 +30,6 @@ def needs_root(tool: Optional[str] = None) -> None:
         pytest.skip("takes root")
     if tool is not None and shutil.which(tool) is None:
         pytest.skip(f"{tool} is not there")
-
-
-def open_to_all(folder: Path) -> None:
-    """Lets another user reach a folder of a test."""
-    for above in (folder, *folder.parents[:3]):
-        above.chmod(0o755)
 
 
 def files(folder: Path) -> list[str]:
