@@ -12,12 +12,8 @@ import running
 
 
 def pytest_configure(config: pytest.Config) -> None:
-    """The marker of the long part."""
+    """The marker of the long part. Without a command there is nothing to test."""
     config.addinivalue_line("markers", "long: takes minutes; run by run.sh --long")
-
-
-def pytest_sessionstart(session: pytest.Session) -> None:
-    """Without a command there is nothing to test."""
     if not running.COMMAND.is_file():
         pytest.exit(f"there is no command at {running.COMMAND}", 1)
 

@@ -23,7 +23,7 @@ class Terminal:
             pytest.skip("tmux is not there")
         self.sockets = tempfile.mkdtemp(prefix="tmux-")
         try:
-            self.tmux("new-session", "-d", "-x", "160", "-y", "50", "-n", "window", "-c", str(folder), shell)
+            self.tmux("new", "-d", "-x", "160", "-y", "50", "-n", "window", "-c", str(folder), shell)
         except subprocess.CalledProcessError as failed:
             shutil.rmtree(self.sockets)
             pytest.skip(f"tmux cannot be started: {failed.stderr.decode().strip()}")
