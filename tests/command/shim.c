@@ -10,7 +10,6 @@
  *   fail-X   the call X gives EIO
  */
 #define _GNU_SOURCE
-#include <dlfcn.h>
 #include <errno.h>
 #include <fcntl.h>
 #include <stdint.h>
@@ -69,8 +68,10 @@ static int noted(const char *name, int fd, long long place, size_t length)
     return 0;
 }
 
+/* What a pwrite gives: it stores what SHIM_DO says, or all. */
 static ssize_t put(int fd, const void *bytes, size_t length, off_t place)
 {
+    size_t most = does("short") && length > 1 ? 1 : length;
     uint8_t first;
 
     if (noted("pwrite", fd, (long long)place, length)) {
@@ -85,27 +86,33 @@ static ssize_t put(int fd, const void *bytes, size_t length, off_t place)
         syscall(SYS_pwrite64, fd, &first, (size_t)1, place);
         return (ssize_t)length;
     }
-    return syscall(SYS_pwrite64, fd, bytes, does("short") && length > 1 ? (size_t)1 : length, place);
+    return syscall(SYS_pwrite64, fd, bytes, most, place);
 }
 
+/* The C library's call, by either name. */
 ssize_t pwrite(int fd, const void *bytes, size_t length, off_t place)
 {
     return put(fd, bytes, length, place);
 }
 
+/* The same. */
 ssize_t pwrite64(int fd, const void *bytes, size_t length, off64_t place)
 {
     return put(fd, bytes, length, place);
 }
 
+/* What a write gives; standard output and standard error are written whole. */
 ssize_t write(int fd, const void *bytes, size_t length)
 {
+    size_t most = does("short") && length > 1 && fd > 2 ? 1 : length;
+
     if (noted("write", fd, -1, length)) {
         return -1;
     }
-    return syscall(SYS_write, fd, bytes, does("short") && length > 1 && fd > 2 ? (size_t)1 : length);
+    return syscall(SYS_write, fd, bytes, most);
 }
 
+/* What an fsync gives. */
 int fsync(int fd)
 {
     if (noted("fsync", fd, -1, 0)) {
@@ -118,16 +125,19 @@ int fsync(int fd)
     return (int)syscall(SYS_fsync, fd);
 }
 
+/* The same. */
 int fdatasync(int fd)
 {
     return fsync(fd);
 }
 
+/* What an fchown gives. */
 int fchown(int fd, uid_t owner, gid_t group)
 {
     return noted("fchown", fd, -1, 0) ? -1 : (int)syscall(SYS_fchown, fd, owner, group);
 }
 
+/* What an fchmod gives. */
 int fchmod(int fd, mode_t mode)
 {
     return noted("fchmod", fd, -1, 0) ? -1 : (int)syscall(SYS_fchmod, fd, mode);
@@ -139,11 +149,16 @@ int rename(const char *from, const char *to)
     return noted("rename", 3, -1, 0) ? -1 : (int)syscall(SYS_rename, from, to);
 }
 
+/* The same, from folder to folder. */
 int renameat(int from_folder, const char *from, int to_folder, const char *to)
 {
-    return noted("rename", 3, -1, 0) ? -1 : (int)syscall(SYS_renameat, from_folder, from, to_folder, to);
+    if (noted("rename", 3, -1, 0)) {
+        return -1;
+    }
+    return (int)syscall(SYS_renameat, from_folder, from, to_folder, to);
 }
 
+/* The same, with flags. */
 int renameat2(int from_folder, const char *from, int to_folder, const char *to, unsigned flags)
 {
     if (noted("rename", 3, -1, 0)) {
