@@ -32,6 +32,29 @@ int check_change(struct job *job)
     return STATUS_DONE;
 }
 
+/*
+ * Sees that nothing is lost after the image's end, where a change puts FFh: whatever stands there is
+ * FFh or 00h, or --length or --size says how long the image's room is.
+ */
+static int check_rest(struct job *job, const struct image *image)
+{
+    size_t place = image->length, used;
+
+    while (place < image->room && (image->bytes[place] == 0xFF || image->bytes[place] == 0)) {
+        place++;
+    }
+    if (place == image->room || job->options.has_length || job->options.has_size) {
+        return STATUS_DONE;
+    }
+    for (used = image->room; image->bytes[used - 1] == 0xFF || image->bytes[used - 1] == 0; used--) {
+    }
+    refuse(job, STATUS_REFUSED, -1, "what stands after the image, from byte %zu to byte %zu, would "
+           "be lost", (size_t)image->offset + place, (size_t)image->offset + used - 1);
+    job->problem.place = (int64_t)(image->offset + place);
+    hint(job, "--length %zu keeps it; --size %zu gives its room to the image", place, image->room);
+    return STATUS_REFUSED;
+}
+
 /* Reads the file of a change and lists its image. */
 int open_change(struct job *job, struct input *input, struct image *image)
 {
@@ -46,7 +69,7 @@ int open_change(struct job *job, struct input *input, struct image *image)
         return refuse(job, STATUS_FILE, -1, "is too long: a file that is changed has at most %d "
                       "bytes", FILE_MAX);
     }
-    return status;
+    return status == STATUS_DONE ? check_rest(job, image) : status;
 }
 
 /* The room that the new image gets: the old one, or that of --size. */

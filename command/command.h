@@ -238,6 +238,7 @@ void put_code(struct text *text, uint32_t format, uint32_t code);
 void put_label(struct text *text, const struct image *image, uint32_t code, const uint8_t *key,
                size_t key_length);
 void put_entry_label(struct text *text, const struct image *image, uint32_t n);
+void put_entry_name(struct text *text, const struct image *image, uint32_t n);
 json_t *json_name(const struct image *image, uint32_t code, const uint8_t *key, size_t key_length);
 bool name_fits(uint32_t format, uint32_t code, bool named, const char *word);
 bool entry_fits(const struct image *image, uint32_t n, const char *word);

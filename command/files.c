@@ -247,6 +247,9 @@ static int write_in_place(struct job *job, const struct input *input, const uint
         return refuse(job, STATUS_FILE, -1, "--in-place keeps a file's length: it has %zu bytes, "
                       "and %zu are to be written", input->length, length);
     }
+    if (S_ISFIFO(input->stat.st_mode) || S_ISSOCK(input->stat.st_mode)) {
+        return refuse(job, STATUS_FILE, -1, "has no places to write to: it is a pipe or a socket");
+    }
     fd = open(input->name, O_WRONLY | O_CLOEXEC | O_NOCTTY);
     if (fd < 0) {
         return refuse(job, STATUS_FILE, -1, "cannot be written: %s", strerror(errno));
@@ -419,6 +422,10 @@ static int replace(struct job *job, const struct input *input, const uint8_t *by
         return STATUS_FILE;
     }
     status = find_way(job, input, &way);
+    if (status == STATUS_DONE && input->there &&
+        faccessat(AT_FDCWD, way.real, W_OK, AT_EACCESS) != 0) {
+        status = refuse(job, STATUS_FILE, -1, "cannot be written: %s", strerror(errno));
+    }
     if (status != STATUS_DONE) {
         way_free(&way);
         return status;

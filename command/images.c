@@ -238,8 +238,8 @@ static bool fits_only(const struct image *image, uint32_t n, const char *word)
     return true;
 }
 
-/* Prints the name of entry n by which get takes it: a key, a short name, a title, a code, #n. */
-static void print_name(const struct image *image, uint32_t n)
+/* Adds the name of entry n by which get takes it: a key, a short name, a title, a code, #n. */
+void put_entry_name(struct text *text, const struct image *image, uint32_t n)
 {
     const struct boardid_record *record = &image->records[n];
     const struct known *known = find_known(image->format, record->code);
@@ -261,7 +261,7 @@ static void print_name(const struct image *image, uint32_t n)
     text_add(&tries[count++], "#%u", n);
     for (i = 0; i < count; i++) {
         if (fits_only(image, n, text_of(&tries[i]))) {
-            printf("%s\n", text_of(&tries[i]));
+            text_add(text, "%s", text_of(&tries[i]));
             break;
         }
     }
@@ -330,7 +330,11 @@ int command_list(struct job *job)
         print_json(object);
     } else if (status == STATUS_DONE && job->options.names) {
         for (n = 0; n < image.count; n++) {
-            print_name(&image, n);
+            struct text name = {NULL, 0, 0};
+
+            put_entry_name(&name, &image, n);
+            printf("%s\n", text_of(&name));
+            text_free(&name);
         }
     } else if (status == STATUS_DONE) {
         print_table(job, &image);

@@ -244,6 +244,7 @@ static int wrong_option(struct job *job, int letter, char **words)
     } else if (optopt != 0) {
         text_add(&text, "there is no option -");
         text_escaped(&text, &byte, 1);
+        text_add(&text, "; a word that is no option stands after --");
     } else {
         text_add(&text, "there is no such option: ");
         text_word(&text, words[optind - 1]);

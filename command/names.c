@@ -347,7 +347,7 @@ static int no_entry(struct job *job, const struct image *image, const char *word
         text_add(&text, "; it has: %s", image->count == 0 ? "none" : "");
         for (n = 0; n < image->count && n < 64; n++) {
             text_add(&text, n == 0 ? "" : ", ");
-            put_entry_label(&text, image, n);
+            put_entry_name(&text, image, n);
         }
         if (n < image->count) {
             text_add(&text, " .. (%u entries)", image->count);
@@ -396,7 +396,7 @@ int find_entry(struct job *job, const struct image *image, const char *word, uin
         if (found < 16) {
             text_add(&text, "%sentry %u, ", found == 0 ? "" : ", and ", i);
             put_entry_label(&text, image, i);
-            text_add(&numbers, "%s#%u", found == 0 ? "" : " or ", i);
+            text_add(&numbers, "%s'#%u'", found == 0 ? "" : " or ", i);
         }
         found++;
     }

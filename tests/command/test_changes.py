@@ -362,6 +362,34 @@ def test_offset_and_length_of_a_change(name: str, copy: Copy) -> None:
     assert answer["changes"][0]["place"] == len(before) + next(k for k in range(len(data)) if data[k] != wanted[k])
 
 
+CHANGES_OF_ONIE: list[list[Word]] = [["set", "serial", "NEW"], ["add", "extension", "00010203"], ["remove", "country"], ["vendor", "serial=NEW"]]
+
+
+@pytest.mark.parametrize("change", CHANGES_OF_ONIE, ids=lambda change: str(change[0]))
+def test_what_stands_after_the_image_is_not_lost(change: list[Word], copy: Copy) -> None:
+    path = copy("onie.bin")
+    image = sample("onie.bin")
+    other = b"\xff\0\xff" + b"other" + b"\xff\0"
+    for before in (b"", b"\x56before"):
+        path.write_bytes(before + image + other)
+        line: list[Word] = [change[0], path, *change[1:], "-o", len(before)]
+        for more in ([], ["-n"], ["-i"]):
+            result = run(*line, *more)
+            assert result.status == REFUSED and "--length 515" in result.said, result
+            assert f"from byte {len(before) + 515} to byte {len(before) + 519}" in result.said
+        error = run(*line, "-j").error
+        assert (error["number"], error["place"]) == (None, len(before) + 515)
+        assert path.read_bytes() == before + image + other
+        assert run(*line, "-l", 515).status == DONE
+        assert path.read_bytes()[len(before) + 515 :] == other[3:]
+        path.write_bytes(before + image + other)
+        assert run(*line, "-s", len(image + other)).status == DONE
+        assert path.read_bytes()[len(before) + 512 :] == b"\xff" * len(other)
+    path.write_bytes(image + b"\0\xff" * 9)
+    assert run(change[0], path, *change[1:]).status == DONE
+    assert path.read_bytes()[512:] == b"\xff" * 18
+
+
 @pytest.mark.parametrize("name", NAMES)
 def test_size(name: str, copy: Copy) -> None:
     fmt, data = format_of(name), sample(name)

@@ -104,6 +104,8 @@ def random_changes(seed: str, tries: int) -> None:
         data = image_of(numbers, fmt)
         edition = numbers.choice([4, 4, 4, 3, 2, 1])
         size = numbers.choice([None, None, len(data) + 40, len(data) + 400])
+        if size is None and data.endswith(b"junk"):
+            size = len(data)  # else the command keeps what stands after the image
         words, wanted = asked_of(numbers, fmt, data, edition, len(data) if size is None else size)
         at = words.index("--")
         line: list[Word] = [*words[:at], "-f", fmt, "-e", edition]

@@ -177,7 +177,10 @@ def test_get_of_what_is_not_there(name: str, word: str) -> None:
 def test_not_there_says_what_is() -> None:
     said = run("get", SAMPLES / "onie.bin", "serial2").said
     assert "no entry serial2" in said
-    assert "it has" in said and "Serial Number" in said and "Country Code" in said
+    named = said.split("it has: ")[1].split(" (")[0].split(", ")
+    assert "serial" in named and "country" in named and "0x26" in named
+    for word in named:
+        assert run("get", SAMPLES / "onie.bin", word).status == DONE
 
 
 def test_vpd_keys_are_exact() -> None:
