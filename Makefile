@@ -92,7 +92,14 @@ $(LIB): FORCE
 	@library/build
 endif
 
-$(OUT)/$(SHARED): $(LIB) library/boardid.map
+# The checksum of the archive that all below are made from; it is written where it changes, so that another archive, also an older one, makes them anew.
+ARCHIVE := $(OUT)/archive.sum
+
+$(ARCHIVE): $(LIB) FORCE
+	@mkdir -p $(OUT)
+	@sum=$$(cksum <'$(LIB)') && { [ "$$sum" = "$$(cat $@ 2>/dev/null)" ] || echo "$$sum" >$@; }
+
+$(OUT)/$(SHARED): $(ARCHIVE) library/boardid.map
 	@mkdir -p $(OUT)
 	$(CC) -shared $(CFLAGS) $(LDFLAGS) -Wl,-soname,$(SONAME) -Wl,--version-script=library/boardid.map -Wl,--no-undefined-version \
 	    -Wl,-z,relro -Wl,-z,now -Wl,-z,defs -o $@ -Wl,--whole-archive $(LIB) -Wl,--no-whole-archive $(LDLIBS)
@@ -100,7 +107,7 @@ $(OUT)/$(SHARED): $(LIB) library/boardid.map
 $(OUT)/$(SONAME) $(OUT)/libboardid.so: $(OUT)/$(SHARED)
 	ln -sf $(SHARED) $@
 
-$(EXAMPLES:%=$(OUT)/%): $(OUT)/%: examples/%.c examples/image_file.h examples/whole_file.h $(HEADERS) $(LIB)
+$(EXAMPLES:%=$(OUT)/%): $(OUT)/%: examples/%.c examples/image_file.h examples/whole_file.h $(HEADERS) $(ARCHIVE)
 	@mkdir -p $(OUT)
 	$(CC) -std=c99 $(WARNINGS) $(CPPFLAGS) $(CFLAGS) -Iinclude $(LDFLAGS) -o $@ $< $(LIB) $(LDLIBS)
 
@@ -113,7 +120,7 @@ $(COMMAND_OBJECTS): $(OUT)/command/%.o: command/%.c
 -include $(COMMAND_OBJECTS:.o=.d)
 
 # It has the library in itself, so that it runs wherever it is put.
-$(OUT)/boardid: $(COMMAND_OBJECTS) $(LIB)
+$(OUT)/boardid: $(COMMAND_OBJECTS) $(ARCHIVE)
 	$(CC) $(CFLAGS) $(LDFLAGS) -o $@ $(COMMAND_OBJECTS) $(LIB) $(JANSSON_LIBS) $(LDLIBS)
 
 $(PAGES): $(MAN)/%: man/%.scd

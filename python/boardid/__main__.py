@@ -9,6 +9,7 @@ from __future__ import annotations
 import argparse
 import json
 import os
+import signal
 import sys
 from typing import Any, Dict, List, NoReturn, Optional
 
@@ -238,4 +239,6 @@ def main(arguments: Optional[List[str]] = None) -> int:
 
 
 if __name__ == "__main__":
+    # Ends without a word where what it prints is no longer read, as other commands do.
+    signal.signal(signal.SIGPIPE, signal.SIG_DFL)
     sys.exit(main())

@@ -346,6 +346,18 @@ what_is_in() {
     (cd "$1" && find . ! -type d -o -name boardid -o -name 'edition-*' | LC_ALL=C sort)
 }
 
+# Every place that has the version of the package has that of include/boardid.h.in.
+versions() {
+    local version file
+    version=$(sed -n 's/^@version //p' include/boardid.h.in)
+    for file in man/boardid.1.scd:"boardid(1) \"boardid $version\"" man/boardid.3.scd:"boardid(3) \"boardid $version\"" \
+        man/boardid.3.scd:"\"$version\"" "python/pyproject.toml:version = \"$version\"" "python/boardid/__init__.py:__version__ = \"$version\"" \
+        "debian/changelog:boardid ($version-" "CHANGELOG.md:## [$version] - " "docs/C-INTERFACE.md:libboardid.so.1.$version\`"; do
+        grep -qF -- "${file#*:}" "${file%%:*}" || { echo "${file%%:*} has no ${file#*:}"; return 1; }
+    done
+    [ "$(sed -n '1s/^boardid (\([^)-]*\)-.*/\1/p' debian/changelog)" = "$version" ] && [ "$(sed -n '0,/^## /s/^## \[\([^]]*\)\].*/\1/p' CHANGELOG.md)" = "$version" ]
+}
+
 # What make installs is enough to build an example with the newest header, and with that of each edition, with the shared library and with the archive; also after it was
 # moved elsewhere. What make uninstall leaves is nothing.
 installed() {
@@ -525,6 +537,7 @@ if command -v pkg-config >"$room/output"; then
 else
     echo 'left out: there is no pkg-config'
 fi
+try 'one version everywhere' versions
 try 'make install with DESTDIR' staged
 try 'make install without an archive' no_archive
 try 'make a second time' make_twice

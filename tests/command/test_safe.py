@@ -99,6 +99,22 @@ def test_file_that_cannot_be_written(copy: Copy, tmp_path: Path) -> None:
     assert path.read_bytes() == OLD
 
 
+def test_own_file_that_is_closed(copy: Copy, tmp_path: Path) -> None:
+    needs_root("setpriv")
+    path = copy("onie.bin")
+    open_to_all(tmp_path)
+    for one in (tmp_path, path):
+        os.chown(one, 65534, 65534)
+    path.chmod(0o444)
+    for more in ([], ["-i"]):
+        result = run("set", *more, path, *SET, prefix=OTHER)
+        assert result.status == FAILED and "Permission denied" in result.said
+    assert path.read_bytes() == OLD
+    path.chmod(0o644)
+    assert run("set", path, *SET, prefix=OTHER).status == DONE
+    assert path.read_bytes() == NEW
+
+
 def test_symbolic_link(copy: Copy, tmp_path: Path) -> None:
     path = copy("onie.bin")
     folder = tmp_path / "links"
@@ -180,6 +196,7 @@ def test_what_is_no_regular_file(tmp_path: Path) -> None:
     result = through_fifo(path, ["set", path, *SET])
     assert result.status == FAILED
     assert "--in-place" in result.said
+    assert through_fifo(path, ["set", "-i", path, *SET]).status == FAILED
     assert stat.S_ISFIFO(path.stat().st_mode)
     assert files(tmp_path) == ["fifo"]
 
