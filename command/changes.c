@@ -139,7 +139,10 @@ int finish_change(struct job *job, const struct input *input, const uint8_t *byt
     struct text text = {NULL, 0, 0};
     int status = STATUS_DONE;
 
-    if (!dry && (differs || standard)) {
+    if (differs) {
+        status = may_write(job, input, length);
+    }
+    if (status == STATUS_DONE && !dry && (differs || standard)) {
         status = write_output(job, input, bytes, length);
     }
     if (status == STATUS_DONE && job->options.json) {

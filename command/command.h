@@ -142,6 +142,7 @@ struct run {
 };
 
 int read_input(struct job *job, const char *name, bool may_miss, struct input *input);
+int may_write(struct job *job, const struct input *input, size_t length);
 int write_output(struct job *job, const struct input *input, const uint8_t *bytes, size_t length);
 bool next_run(const struct input *input, const uint8_t *bytes, size_t length, struct run *run);
 void hold_standard(void);
@@ -238,6 +239,7 @@ void put_code(struct text *text, uint32_t format, uint32_t code);
 void put_label(struct text *text, const struct image *image, uint32_t code, const uint8_t *key,
                size_t key_length);
 void put_entry_label(struct text *text, const struct image *image, uint32_t n);
+bool is_entry_number(const char *word, uint64_t *number);
 void put_entry_name(struct text *text, const struct image *image, uint32_t n);
 json_t *json_name(const struct image *image, uint32_t code, const uint8_t *key, size_t key_length);
 bool name_fits(uint32_t format, uint32_t code, bool named, const char *word);
@@ -255,7 +257,6 @@ enum style {
     STYLE_SAID   /* in a sentence; text in quotes */
 };
 
-enum type record_type(const struct image *image, const struct boardid_record *record);
 void show_value(struct text *text, const struct image *image, uint32_t n, enum style style);
 json_t *entry_json(const struct image *image, uint32_t n);
 json_t *string_json(const struct image *image, uint32_t number);

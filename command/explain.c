@@ -88,7 +88,7 @@ static bool put_bad_byte(struct text *text, const uint8_t *value, size_t length,
     return false;
 }
 
-/* Adds a short value: in quotes where it is text, else in hexadecimal. */
+/* Adds a short value: as it is where it is text, else in hexadecimal. */
 static void put_value(struct text *text, const uint8_t *value, size_t length)
 {
     if (length > 0 && length <= 32 && is_printable(value, length)) {
@@ -135,7 +135,7 @@ static void put_key_rule(struct text *text, const struct wanted *wanted)
     text_add(text, "it breaks the rule of its type");
 }
 
-/* Whether eight digits are said at a place of a value, for what is said of a date. */
+/* Whether a value begins as a pattern says: a digit for each 0 of it, and else its own bytes. */
 static bool has_digits(const uint8_t *value, const char *pattern)
 {
     for (; *pattern != '\0'; pattern++, value++) {

@@ -13,6 +13,8 @@
 #include <signal.h>
 #include <stdlib.h>
 #include <string.h>
+#include <sys/file.h>
+#include <sys/xattr.h>
 #include <unistd.h>
 
 /*
@@ -235,6 +237,56 @@ static int read_back(struct job *job, const struct input *input, const uint8_t *
     return STATUS_DONE;
 }
 
+/* Whether an open file is the one that was read, with the bytes that were read. */
+static bool has_bytes(int fd, const struct input *input)
+{
+    uint8_t block[4096];
+    size_t place = 0;
+    struct stat now;
+
+    if (fstat(fd, &now) != 0 || now.st_dev != input->stat.st_dev ||
+        now.st_ino != input->stat.st_ino) {
+        return false;
+    }
+    while (place < input->length) {
+        const size_t left = input->length - place;
+        const ssize_t got =
+            pread(fd, block, left < sizeof block ? left : sizeof block, (off_t)place);
+
+        if (got < 0 && errno == EINTR) {
+            continue;
+        }
+        if (got <= 0 || memcmp(block, input->bytes + place, (size_t)got) != 0) {
+            return false;
+        }
+        place += (size_t)got;
+    }
+    return true;
+}
+
+/*
+ * Opens a file to write into it, and sees that it is still as it was read and that no other program
+ * holds a lock on it, as this one does while it writes. Less than 0: it was refused.
+ */
+static int open_in_place(struct job *job, const struct input *input)
+{
+    const int fd = open(input->name, O_RDWR | O_CLOEXEC | O_NOCTTY);
+
+    if (fd < 0) {
+        refuse(job, STATUS_FILE, -1, "cannot be written: %s", strerror(errno));
+        return -1;
+    }
+    if (flock(fd, LOCK_EX | LOCK_NB) != 0 && errno == EWOULDBLOCK) {
+        refuse(job, STATUS_FILE, -1, "another program has locked it; nothing is written");
+    } else if (!has_bytes(fd, input)) {
+        refuse(job, STATUS_FILE, -1, "another program has changed it; nothing is written");
+    } else {
+        return fd;
+    }
+    close(fd);
+    return -1;
+}
+
 /* Writes the bytes that differ into the file itself, and reads them back. */
 static int write_in_place(struct job *job, const struct input *input, const uint8_t *bytes,
                           size_t length)
@@ -243,16 +295,9 @@ static int write_in_place(struct job *job, const struct input *input, const uint
     sigset_t all, before;
     int fd, why = 0;
 
-    if (length != input->length) {
-        return refuse(job, STATUS_FILE, -1, "--in-place keeps a file's length: it has %zu bytes, "
-                      "and %zu are to be written", input->length, length);
-    }
-    if (S_ISFIFO(input->stat.st_mode) || S_ISSOCK(input->stat.st_mode)) {
-        return refuse(job, STATUS_FILE, -1, "has no places to write to: it is a pipe or a socket");
-    }
-    fd = open(input->name, O_WRONLY | O_CLOEXEC | O_NOCTTY);
+    fd = open_in_place(job, input);
     if (fd < 0) {
-        return refuse(job, STATUS_FILE, -1, "cannot be written: %s", strerror(errno));
+        return STATUS_FILE;
     }
     sigfillset(&all);
     sigprocmask(SIG_BLOCK, &all, &before);
@@ -356,7 +401,53 @@ static bool is_unchanged(const struct input *input, const char *real)
 }
 
 /* What did not work in putting a new file in the place of the old one. */
-enum trouble { NO_TROUBLE, NO_TEMPORARY, NO_OWNER, NOT_WRITTEN, CHANGED, NOT_SYNCED };
+enum trouble {
+    NO_TROUBLE,
+    NO_TEMPORARY,
+    NO_OWNER,
+    NOT_WRITTEN,
+    CHANGED,
+    OTHER_BESIDE, /* another program's file stands beside the new one, under the temporary name */
+    NOT_SYNCED
+};
+
+/*
+ * Gives the temporary file the real one's name. An old file changes places with it, and is looked at
+ * only then: so a change that another program has made meanwhile is seen, and stays. A file system
+ * that cannot do so is asked for a plain rename, after a last look.
+ */
+static enum trouble take_place(const struct input *input, const struct way *way, int *why)
+{
+    const unsigned flag = input->there ? RENAME_EXCHANGE : RENAME_NOREPLACE;
+
+    if (renameat2(AT_FDCWD, way->beside, AT_FDCWD, way->real, flag) == 0) {
+        if (input->there && !is_unchanged(input, way->beside)) {
+            if (renameat2(AT_FDCWD, way->beside, AT_FDCWD, way->real, flag) != 0) {
+                *why = errno;
+                return OTHER_BESIDE;
+            }
+            unlink(way->beside);
+            return CHANGED;
+        }
+        if (input->there) {
+            unlink(way->beside);
+        }
+        return NO_TROUBLE;
+    }
+    *why = errno;
+    if (errno == EINVAL || errno == ENOSYS) {
+        if (is_unchanged(input, way->real)) {
+            if (rename(way->beside, way->real) == 0) {
+                return NO_TROUBLE;
+            }
+            *why = errno;
+        } else {
+            *why = EEXIST;
+        }
+    }
+    unlink(way->beside);
+    return *why == EEXIST || (*why == ENOENT && input->there) ? CHANGED : NOT_WRITTEN;
+}
 
 /* Puts a new file in the place of the old one. Nothing here takes memory. */
 static enum trouble put_in_place(const struct input *input, const struct way *way,
@@ -380,15 +471,12 @@ static enum trouble put_in_place(const struct input *input, const struct way *wa
         *why = errno;
         trouble = NOT_WRITTEN;
     }
-    if (trouble == NO_TROUBLE && !is_unchanged(input, way->real)) {
-        trouble = CHANGED;
-    }
-    if (trouble == NO_TROUBLE && rename(way->beside, way->real) != 0) {
-        *why = errno;
-        trouble = NOT_WRITTEN;
-    }
     if (trouble != NO_TROUBLE) {
         unlink(way->beside);
+        return trouble;
+    }
+    trouble = take_place(input, way, why);
+    if (trouble != NO_TROUBLE) {
         return trouble;
     }
     folder = open(way->folder, O_RDONLY | O_DIRECTORY | O_CLOEXEC);
@@ -410,17 +498,6 @@ static int replace(struct job *job, const struct input *input, const uint8_t *by
     struct way way;
     int why = 0, status;
 
-    if (input->there && !S_ISREG(input->stat.st_mode)) {
-        refuse(job, STATUS_FILE, -1, "is no regular file, and cannot be replaced");
-        hint(job, "--in-place writes into it");
-        return STATUS_FILE;
-    }
-    if (input->there && input->stat.st_nlink > 1) {
-        refuse(job, STATUS_FILE, -1, "has %ju names, of which only one would have the new file",
-               (uintmax_t)input->stat.st_nlink);
-        hint(job, "--in-place writes into it");
-        return STATUS_FILE;
-    }
     status = find_way(job, input, &way);
     if (status == STATUS_DONE && input->there &&
         faccessat(AT_FDCWD, way.real, W_OK, AT_EACCESS) != 0) {
@@ -434,6 +511,14 @@ static int replace(struct job *job, const struct input *input, const uint8_t *by
     sigprocmask(SIG_BLOCK, &all, &before);
     trouble = put_in_place(input, &way, bytes, length, &why);
     sigprocmask(SIG_SETMASK, &before, NULL);
+    if (trouble == OTHER_BESIDE) {
+        struct text text = {NULL, 0, 0};
+
+        text_word(&text, way.beside);
+        refuse(job, STATUS_FILE, -1, "is the new file, but another program had changed it; what "
+               "that has written is %s: %s", text_of(&text), strerror(why));
+        text_free(&text);
+    }
     way_free(&way);
     switch (trouble) {
     case NO_TROUBLE:
@@ -449,6 +534,8 @@ static int replace(struct job *job, const struct input *input, const uint8_t *by
                       "the disk: %s", strerror(why));
     case CHANGED:
         return refuse(job, STATUS_FILE, -1, "another program has changed it; nothing is written");
+    case OTHER_BESIDE:
+        return STATUS_FILE;
     default:
         return refuse(job, STATUS_FILE, -1, "cannot be written: %s", strerror(why));
     }
@@ -456,6 +543,47 @@ static int replace(struct job *job, const struct input *input, const uint8_t *by
         hint(job, "--in-place writes into it");
     }
     return STATUS_FILE;
+}
+
+/*
+ * Whether a file can be changed at all, as far as its kind tells: into itself where its length stays
+ * and it has places, else by a new file where that has all that the old one has.
+ */
+int may_write(struct job *job, const struct input *input, size_t length)
+{
+    const mode_t mode = input->stat.st_mode;
+    int status = STATUS_DONE;
+
+    if (is_standard(input->name) || !input->there) {
+        return STATUS_DONE;
+    }
+    job->problem.file = input->name;
+    if (job->options.in_place) {
+        if (length != input->length) {
+            status = refuse(job, STATUS_FILE, -1, "--in-place keeps a file's length: it has %zu "
+                            "bytes, and %zu are to be written", input->length, length);
+        } else if (S_ISFIFO(mode) || S_ISSOCK(mode)) {
+            status = refuse(job, STATUS_FILE, -1, "has no places to write to: it is a pipe or a "
+                            "socket");
+        }
+    } else {
+        if (!S_ISREG(mode)) {
+            status = refuse(job, STATUS_FILE, -1, "is no regular file, and cannot be replaced");
+        } else if (input->stat.st_nlink > 1) {
+            status = refuse(job, STATUS_FILE, -1, "has %ju names, of which only one would have the "
+                            "new file", (uintmax_t)input->stat.st_nlink);
+        } else if (getxattr(input->name, "system.posix_acl_access", NULL, 0) > 0) {
+            status = refuse(job, STATUS_FILE, -1, "has an access list, which a new file would not "
+                            "have");
+        }
+        if (status != STATUS_DONE) {
+            hint(job, "--in-place writes into it");
+        }
+    }
+    if (status == STATUS_DONE) {
+        job->problem.file = NULL;
+    }
+    return status;
 }
 
 /* Writes the new bytes of a file: to standard output, into the file, or as a new file. */

@@ -10,9 +10,15 @@
 int find_room(struct job *job, const struct input *input, size_t *offset, size_t *room)
 {
     const struct options *options = &job->options;
-    const char *more = input->length > FILE_MAX ? "more than " : "";
-    const size_t length = input->length > FILE_MAX ? FILE_MAX : input->length;
+    const bool cut = input->length > FILE_MAX;
+    const char *more = cut ? "more than " : "";
+    const size_t length = cut ? FILE_MAX : input->length;
 
+    if (cut && (options->offset > FILE_MAX ||
+                (options->has_length ? options->length : ROOM_MAX + 1) >
+                    FILE_MAX - options->offset)) {
+        return refuse(job, STATUS_FILE, -1, "only the first %d bytes of a file are read", FILE_MAX);
+    }
     if (options->offset > length) {
         return refuse(job, STATUS_FILE, -1, "--offset %" PRIu64 " is past the end: the file has "
                       "%s%zu bytes", options->offset, more, length);
@@ -214,12 +220,13 @@ static void put_count(struct text *text, size_t count, const char *one, const ch
 static bool fits_only(const struct image *image, uint32_t n, const char *word)
 {
     bool by_code[2][256];
+    uint64_t number;
     uint32_t i;
 
     if (!entry_fits(image, n, word)) {
         return false;
     }
-    if (word[0] == '#') {
+    if (is_entry_number(word, &number)) {
         return true;
     }
     for (i = 0; i < 256; i++) {

@@ -299,7 +299,7 @@ bool name_fits(uint32_t format, uint32_t code, bool named, const char *word)
 }
 
 /* Whether a word is # and a number; the number is the greatest where it is too large. */
-static bool is_entry_number(const char *word, uint64_t *number)
+bool is_entry_number(const char *word, uint64_t *number)
 {
     if (word[0] != '#' || word[1] == '\0' || word[1 + strspn(word + 1, "0123456789")] != '\0') {
         return false;

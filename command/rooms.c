@@ -115,7 +115,7 @@ static int explain_body(struct job *job, const struct input *input, uint64_t ans
     return STATUS_REFUSED;
 }
 
-/* Says why a call on a room file is refused. The body is that of the call, or has no bytes. */
+/* Says why a call on a room file is refused. The body is that of the call, or null. */
 static int explain_room(struct job *job, const struct input *input, uint32_t board, uint64_t answer,
                         const struct input *body, uint32_t format)
 {

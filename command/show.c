@@ -6,7 +6,7 @@
 enum { TEXT_CUT = 256 }; /* the most characters of a text in the table, and in a sentence */
 
 /* How a record's value is shown. */
-enum type record_type(const struct image *image, const struct boardid_record *record)
+static enum type record_type(const struct image *image, const struct boardid_record *record)
 {
     switch (record->reading) {
     case BOARDID_READING_TEXT:

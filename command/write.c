@@ -257,23 +257,32 @@ static int number_value(struct job *job, uint32_t format, uint32_t code, const j
     return STATUS_DONE;
 }
 
-/* The type by which an entry's value is read: its own word, or that of its code. */
+/*
+ * The type by which an entry's value is read: that of its code, or bytes, or of a code with bytes
+ * also text. Any other word is no type of this entry.
+ */
 static bool entry_type(const struct image *image, const json_t *entry, uint32_t code,
                        enum type *type)
 {
     const json_t *word = json_object_get(entry, "type");
     const struct known *known = find_known(image->format, code);
-    int i;
+    const char *said;
 
     *type = known == NULL ? TYPE_BYTES : known->type;
     if (word == NULL || json_is_null(word)) {
         return true;
     }
-    for (i = TYPE_BYTES; i <= TYPE_POOL; i++) {
-        if (json_is_string(word) && strcmp(json_string_value(word), type_name((enum type)i)) == 0) {
-            *type = (enum type)i;
-            return true;
-        }
+    said = json_string_value(word);
+    if (said == NULL || strcmp(said, type_name(*type)) == 0) {
+        return said != NULL;
+    }
+    if (strcmp(said, type_name(TYPE_BYTES)) == 0) {
+        *type = TYPE_BYTES;
+        return true;
+    }
+    if (*type == TYPE_BYTES && strcmp(said, type_name(TYPE_TEXT)) == 0) {
+        *type = TYPE_TEXT;
+        return true;
     }
     return false;
 }
@@ -287,7 +296,7 @@ static int entry_value(struct job *job, const struct image *image, struct items 
     enum type type;
 
     if (!entry_type(image, entry, item->code, &type)) {
-        return wanted_json(job, "there is no such type; boardid names has them");
+        return refuse(job, STATUS_REFUSED, -1, "its type is %s, or bytes", type_name(type));
     }
     if (json == NULL || json_is_null(json) || (type == TYPE_BYTES && json_is_string(bytes))) {
         if (bytes == NULL && type == TYPE_STRING &&
@@ -537,8 +546,9 @@ static int write_items(struct job *job, const struct image *image, const struct 
     return status;
 }
 
-/* Reads the JSON text, and gives its list of entries and its format. */
-static int read_json(struct job *job, json_t **root, json_t **entries, uint32_t *format)
+/* Reads the JSON text, which is not the target, and gives its list of entries and its format. */
+static int read_json(struct job *job, const struct input *target, json_t **root, json_t **entries,
+                     uint32_t *format)
 {
     const char *name = job->options.count > 1 ? job->options.words[1] : "-";
     struct input text;
@@ -551,6 +561,10 @@ static int read_json(struct job *job, json_t **root, json_t **entries, uint32_t 
     if (status == STATUS_DONE && text.length > FILE_MAX) {
         job->problem.file = name;
         status = refuse(job, STATUS_FILE, -1, "is too long: it has more than %d bytes", FILE_MAX);
+    }
+    if (status == STATUS_DONE && target->there && !is_standard(name) &&
+        text.stat.st_dev == target->stat.st_dev && text.stat.st_ino == target->stat.st_ino) {
+        status = usage(job, "the JSON is read from the file that is to be written");
     }
     if (status != STATUS_DONE) {
         free(text.bytes);
@@ -575,11 +589,9 @@ static int read_json(struct job *job, json_t **root, json_t **entries, uint32_t 
     json = json_object_get(*root, "format");
     *format = job->options.format;
     if (status == STATUS_DONE && *format == 0) {
-        if (json_is_string(json) && read_format(json_string_value(json), format)) {
-            number = *format;
-        } else if (whole(json, UINT32_MAX, &number)) {
+        if (whole(json, UINT32_MAX, &number)) {
             *format = (uint32_t)number;
-        } else {
+        } else if (!json_is_string(json) || !read_format(json_string_value(json), format)) {
             status = refuse(job, STATUS_REFUSED, -1, "%s: no format that is known", text_of(&said));
             hint(job, "-f fboss, vpd, tiny or onie");
         }
@@ -647,7 +659,7 @@ int command_write(struct job *job)
         status = find_target(job, &input, &image, &room, &own);
     }
     if (status == STATUS_DONE) {
-        status = read_json(job, &root, &entries, &image.format);
+        status = read_json(job, &input, &root, &entries, &image.format);
     }
     if (status == STATUS_DONE) {
         status = read_items(job, &image, entries, &items);

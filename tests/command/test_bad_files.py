@@ -153,6 +153,20 @@ def test_sixteen_mebibytes(length: int, tmp_path: Path) -> None:
             assert file.read(9) == sample("sku.vpd")
 
 
+def test_past_sixteen_mebibytes(tmp_path: Path) -> None:
+    path = tmp_path / "huge"
+    most = 16 * 1024 * 1024
+    with path.open("wb") as file:
+        file.truncate(most + 100)
+        file.seek(most - 9)
+        file.write(sample("sku.vpd"))
+    assert run("get", "-o", most - 9, "-l", 9, path, "SKU").text == "A7\n"
+    for words in (["-o", most - 9], ["-o", most - 9, "-l", 10], ["-o", most + 1], ["-o", most - 65536]):
+        result = run("check", *words, path)
+        assert result.status == FAILED and "first 16777216 bytes" in result.said, result
+    assert run("check", "-j", "-o", most - 65537, "-f", "vpd", path).error["number"] == 2
+
+
 def refusal(data: bytes, edition: int = 4) -> tuple[int, int, int]:
     """Status, number and place that a room of bytes should get from check; 0 0 0 where accepted."""
     if not data:

@@ -2,11 +2,13 @@
 
 from __future__ import annotations
 
+import json
 import os
 import pty
 import shutil
 import signal
 import stat
+import struct
 import subprocess
 import threading
 import time
@@ -165,7 +167,8 @@ def test_hard_link(copy: Copy, tmp_path: Path) -> None:
     answer = run("set", "-j", path, *SET).error
     assert (answer["status"], answer["number"]) == (FAILED, None)
     assert "--in-place" in answer["hint"]
-    assert run("set", "-n", path, *SET).status in (DONE, FAILED)
+    assert run("set", "-n", path, *SET).status == FAILED
+    assert run("set", "-n", "-i", path, *SET).status == DONE
     assert run("set", "-i", path, *SET).status == DONE
     assert (path.read_bytes(), second.read_bytes()) == (NEW, NEW)
     assert path.stat().st_ino == second.stat().st_ino
@@ -535,18 +538,72 @@ def test_ended_in_the_middle_long(sent: signal.Signals, shim: Path, copy: Copy) 
     assert olds > 0 and news > 0
 
 
-def test_two_changes_at_once(copy: Copy, tmp_path: Path) -> None:
-    """Two changes at the same time leave a whole file; one of them may see the other and stop."""
+def at_once(lines: list[list[Word]]) -> list[int]:
+    """The statuses of runs of the command that are started together."""
+    started = [subprocess.Popen([COMMAND, *map(str, line)], stdout=subprocess.DEVNULL, stderr=subprocess.DEVNULL) for line in lines]
+    return [process.wait(20) for process in started]
+
+
+@pytest.mark.parametrize("more", [[], ["-i"]], ids=["replaced", "in place"])
+def test_two_changes_at_once(more: list[Word], copy: Copy, tmp_path: Path) -> None:
+    """Of two changes of one file at the same time each is made, or said not to be: none is lost."""
     path = copy("onie.bin")
-    other = f.edit(f.ONIE, 4, OLD, 2, b"OTHER")
-    lasts = {NEW, other, f.edit(f.ONIE, 4, NEW, 2, b"OTHER"), f.edit(f.ONIE, 4, other, 2, b"NEW-SERIAL-1")}
-    for _ in range(10):
+    wanted = {2: b"NEW-SERIAL-1", 1: b"NEW-PART"}
+    for _ in range(40):
         path.write_bytes(OLD)
-        both = [
-            subprocess.Popen([COMMAND, "set", path, "serial", value], stdout=subprocess.DEVNULL, stderr=subprocess.DEVNULL)
-            for value in ("NEW-SERIAL-1", "OTHER")
-        ]
-        statuses = sorted(process.wait(20) for process in both)
-        assert statuses in ([DONE, DONE], [DONE, FAILED])
-        assert path.read_bytes() in lasts
+        statuses = at_once([["set", *more, path, "serial", "NEW-SERIAL-1"], ["set", *more, path, "part", "NEW-PART"]])
+        assert set(statuses) <= {DONE, FAILED}
+        if more and FAILED in statuses:  # what another wrote in between may have made the reading back fail
+            assert f.read(f.ONIE, 4, path.read_bytes())
+        else:
+            data = OLD
+            for number, status in zip((2, 1), statuses):
+                data = f.edit(f.ONIE, 4, data, number, wanted[number]) if status == DONE else data
+            assert path.read_bytes() == data
         assert files(tmp_path) == ["onie.bin"]
+
+
+def test_two_boards_of_a_new_room_file_at_once(tmp_path: Path) -> None:
+    path = tmp_path / "room"
+    for _ in range(20):
+        statuses = at_once([["room", "add", path, "1", SAMPLES / "tiny.bin"], ["room", "add", path, "2", SAMPLES / "sku.vpd"]])
+        assert set(statuses) <= {DONE, FAILED} and DONE in statuses
+        boards = [board["board"] for board in run("room", "list", "-j", path).json["boards"]]
+        assert boards == [number for number, status in zip((1, 2), statuses) if status == DONE]
+        assert files(tmp_path) == ["room"]
+        path.unlink()
+
+
+@pytest.mark.parametrize("more", [[], ["-i"]], ids=["replaced", "in place"])
+def test_a_file_that_changes_while_json_comes(more: list[Word], copy: Copy) -> None:
+    path = copy("onie.bin")
+    fields = json.dumps([{"name": "Serial Number", "value": "LATE"}]).encode()
+    for changed in (NEW, b"short", OLD + b"\xff"):
+        path.write_bytes(OLD)
+        late = subprocess.Popen([COMMAND, "write", "-f", "onie", *map(str, more), path], stdin=subprocess.PIPE, stdout=subprocess.DEVNULL, stderr=subprocess.PIPE)
+        assert late.stdin is not None
+        time.sleep(0.2)
+        path.write_bytes(changed)
+        said = late.communicate(fields)[1]
+        longer = bool(more) and changed.startswith(OLD)
+        assert late.returncode == (DONE if longer else FAILED), said
+        if not longer:
+            assert b"another program has changed it" in said
+            assert path.read_bytes() == changed
+
+
+def test_an_access_list_is_not_lost(copy: Copy) -> None:
+    path = copy("onie.bin")
+    entries = [(1, 6, 0xFFFFFFFF), (2, 6, 1234), (4, 0, 0xFFFFFFFF), (16, 6, 0xFFFFFFFF), (32, 0, 0xFFFFFFFF)]
+    access = struct.pack("<I", 2) + b"".join(struct.pack("<HHI", *entry) for entry in entries)
+    try:
+        os.setxattr(path, "system.posix_acl_access", access)
+    except OSError:
+        pytest.skip("this file system has no access lists")
+    for dry in ([], ["-n"]):
+        result = run("set", *dry, path, *SET)
+        assert result.status == FAILED and "--in-place" in result.said
+    assert path.read_bytes() == OLD
+    assert run("set", "-i", path, *SET).status == DONE
+    assert path.read_bytes() == NEW
+    assert os.getxattr(path, "system.posix_acl_access") == access

@@ -360,6 +360,24 @@ def test_write_to_a_part_of_a_file_that_is_not_there(tmp_path: Path) -> None:
     assert (tmp_path / "new").read_bytes() == f.write(f.ONIE, 4, [], 50)
 
 
+def test_write_over_its_own_json(tmp_path: Path) -> None:
+    path = tmp_path / "fields.json"
+    path.write_text("[]")
+    for name in (path, tmp_path / "link"):
+        if name != path:
+            name.symlink_to(path)
+        assert run("write", "-f", "onie", name, path).status == USAGE
+        assert path.read_text() == "[]"
+
+
+def test_a_type_of_another_code(tmp_path: Path) -> None:
+    for code, right, word, value in ((1, "pool", "string", "ABC"), (0x10, "string", "text", "A"), (0x11, "flags", "number", 1), (0x60, "address", "none", "A")):
+        text = json.dumps([{"code": code, "type": word, "value": value}])
+        result = run("write", "-j", "-f", "tiny", tmp_path / "new", stdin=text.encode())
+        assert result.status == REFUSED and f"its type is {right}, or bytes" in result.said, result
+    assert not os.listdir(tmp_path)
+
+
 def test_write_to_and_from_what_is_no_file(tmp_path: Path) -> None:
     assert run("write", "-f", "onie", tmp_path, stdin=b"[]").status == FAILED
     assert run("write", "-f", "onie", tmp_path / "a" / "b", stdin=b"[]").status == FAILED
