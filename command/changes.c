@@ -11,6 +11,13 @@
 #include <string.h>
 #include <unistd.h>
 
+/* Says that a file is longer than one that is changed. */
+int too_long_to_change(struct job *job)
+{
+    return refuse(job, STATUS_FILE, -1, "is too long: a file that is changed has at most %d bytes",
+                  FILE_MAX);
+}
+
 /* Whether the command line is one of a change: what goes with standard input, and what does not. */
 int check_change(struct job *job)
 {
@@ -66,8 +73,7 @@ int open_change(struct job *job, struct input *input, struct image *image)
         status = open_image(job, input, image);
     }
     if (input->length > FILE_MAX && status != STATUS_USAGE) {
-        return refuse(job, STATUS_FILE, -1, "is too long: a file that is changed has at most %d "
-                      "bytes", FILE_MAX);
+        return too_long_to_change(job);
     }
     return status == STATUS_DONE ? check_rest(job, image) : status;
 }

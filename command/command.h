@@ -18,6 +18,7 @@
 #endif
 
 #include <jansson.h>
+#include <stdarg.h>
 #include <stdbool.h>
 #include <stddef.h>
 #include <stdint.h>
@@ -46,6 +47,8 @@ struct text {
 
 _Noreturn void no_memory(void);
 void *memory(size_t length);
+void text_add_list(struct text *text, const char *format, va_list arguments)
+    __attribute__((format(printf, 2, 0)));
 void text_add(struct text *text, const char *format, ...) __attribute__((format(printf, 2, 3)));
 void text_put(struct text *text, const char *bytes, size_t length);
 void text_escaped(struct text *text, const uint8_t *bytes, size_t length);
@@ -272,6 +275,7 @@ struct wanted {
     size_t value_length;
 };
 
+int explain_too_long(struct job *job, size_t room);
 int explain_image(struct job *job, const struct image *image, uint64_t answer);
 int explain_rule(struct job *job, const struct image *image, const struct wanted *wanted,
                  int64_t place, bool writing);
@@ -326,6 +330,7 @@ struct change {
     json_t *name;             /* the entry's; null: none */
 };
 
+int too_long_to_change(struct job *job);
 int check_change(struct job *job);
 int open_change(struct job *job, struct input *input, struct image *image);
 int new_room(struct job *job, const struct image *image, size_t *room);

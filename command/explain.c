@@ -516,6 +516,18 @@ static int explain_entry(struct job *job, const struct image *image, int number,
     return STATUS_REFUSED;
 }
 
+/* Says that the room of an image is too long, and how to say where the image is. */
+int explain_too_long(struct job *job, size_t room)
+{
+    refuse(job, STATUS_REFUSED, BOARDID_REFUSED_TOO_LONG,
+           "%s%zu bytes, and an image has at most %d", room > FILE_MAX ? "more than " : "",
+           room > FILE_MAX ? (size_t)FILE_MAX : room, ROOM_MAX);
+    if (strchr(job->command->options, 'l') != NULL) {
+        hint(job, "--length %d, and --offset N where it does not begin at byte 0", ROOM_MAX);
+    }
+    return STATUS_REFUSED;
+}
+
 /* Says why the library refuses an image. */
 int explain_image(struct job *job, const struct image *image, uint64_t answer)
 {
@@ -530,11 +542,7 @@ int explain_image(struct job *job, const struct image *image, uint64_t answer)
         hint(job, "it knows the editions 1 to %u", newest_edition());
         return STATUS_REFUSED;
     case BOARDID_REFUSED_TOO_LONG:
-        text_add(&job->problem.message, "%s%zu bytes, and an image has at most 65536",
-                 image->room > FILE_MAX ? "more than " : "",
-                 image->room > FILE_MAX ? (size_t)FILE_MAX : image->room);
-        hint(job, "--length 65536, and --offset N where it does not begin at byte 0");
-        return STATUS_REFUSED;
+        return explain_too_long(job, image->room);
     case BOARDID_REFUSED_FORMAT:
         text_add(&job->problem.message, "edition %u does not have %s", image->edition,
                  format_title(image->format));

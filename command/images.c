@@ -112,7 +112,9 @@ int find_format(struct job *job, const uint8_t *bytes, size_t room, uint64_t off
     if (room >= 2 && bytes[0] == 0x52 && bytes[1] == 0x4D) {
         hint(job, "it begins like a room file: boardid room list");
     } else {
-        hint(job, "--offset N says where the image begins, --format F which format it has");
+        hint(job, strchr(job->command->options, 'o') == NULL
+             ? "--format F says which format it has"
+             : "--offset N says where the image begins, --format F which format it has");
     }
     return STATUS_REFUSED;
 }

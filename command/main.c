@@ -32,20 +32,15 @@ static const struct option longs[] = {
 /* Keeps why something is refused; gives the status. */
 int refuse(struct job *job, int status, int number, const char *format, ...)
 {
-    char *message = NULL;
+    struct text message = {NULL, 0, 0};
     va_list arguments;
-    int length;
 
     va_start(arguments, format);
-    length = vasprintf(&message, format, arguments);
+    text_add_list(&message, format, arguments);
     va_end(arguments);
-    if (length < 0) {
-        no_memory();
-    }
     text_free(&job->problem.message);
     text_free(&job->problem.hint);
-    text_put(&job->problem.message, message, (size_t)length);
-    free(message);
+    job->problem.message = message;
     json_decref(job->problem.name);
     job->problem.name = NULL;
     job->problem.number = number;
@@ -57,36 +52,27 @@ int refuse(struct job *job, int status, int number, const char *format, ...)
 /* Keeps what can be done about it. */
 void hint(struct job *job, const char *format, ...)
 {
-    char *message = NULL;
+    struct text message = {NULL, 0, 0};
     va_list arguments;
-    int length;
 
     va_start(arguments, format);
-    length = vasprintf(&message, format, arguments);
+    text_add_list(&message, format, arguments);
     va_end(arguments);
-    if (length < 0) {
-        no_memory();
-    }
     text_free(&job->problem.hint);
-    text_put(&job->problem.hint, message, (size_t)length);
-    free(message);
+    job->problem.hint = message;
 }
 
 /* Says what is wrong with the command line, and how the command is used. */
 int usage(struct job *job, const char *format, ...)
 {
-    char *message = NULL;
+    struct text message = {NULL, 0, 0};
     va_list arguments;
-    int length;
 
     va_start(arguments, format);
-    length = vasprintf(&message, format, arguments);
+    text_add_list(&message, format, arguments);
     va_end(arguments);
-    if (length < 0) {
-        no_memory();
-    }
-    fprintf(stderr, "boardid: %s\n", message);
-    free(message);
+    fprintf(stderr, "boardid: %s\n", text_of(&message));
+    text_free(&message);
     print_usage(job->command, stderr);
     return STATUS_USAGE;
 }

@@ -295,8 +295,7 @@ static int read_room(struct job *job, bool may_miss, struct input *input, struct
         return status;
     }
     if (input->length > FILE_MAX) {
-        return refuse(job, STATUS_FILE, -1, "is too long: a file that is changed has at most %d "
-                      "bytes", FILE_MAX);
+        return too_long_to_change(job);
     }
     if (input->there && input->length == 0) {
         return refuse(job, STATUS_FILE, -1, "is empty");

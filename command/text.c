@@ -43,21 +43,27 @@ void text_put(struct text *text, const char *bytes, size_t length)
     text->bytes[text->length] = '\0';
 }
 
-/* Adds to a text as printf prints. */
-void text_add(struct text *text, const char *format, ...)
+/* Adds to a text as vprintf prints. */
+void text_add_list(struct text *text, const char *format, va_list arguments)
 {
     char *added = NULL;
-    va_list arguments;
-    int length;
+    const int length = vasprintf(&added, format, arguments);
 
-    va_start(arguments, format);
-    length = vasprintf(&added, format, arguments);
-    va_end(arguments);
     if (length < 0) {
         no_memory();
     }
     text_put(text, added, (size_t)length);
     free(added);
+}
+
+/* Adds to a text as printf prints. */
+void text_add(struct text *text, const char *format, ...)
+{
+    va_list arguments;
+
+    va_start(arguments, format);
+    text_add_list(text, format, arguments);
+    va_end(arguments);
 }
 
 /* Adds bytes of an image: those outside 20h to 7Eh as \x1b, a backslash as two. */

@@ -459,11 +459,6 @@ static int explain_write(struct job *job, const struct image *image, const struc
             there[items->items[other].code & 0xFF] = true;
         }
         return explain_missing(job, image->format, there);
-    case BOARDID_REFUSED_TOO_LONG:
-        refuse(job, STATUS_REFUSED, (int)number,
-               "%zu bytes of room, and an image has at most 65536", room);
-        hint(job, "--length 65536, and --offset N where it does not begin at byte 0");
-        return STATUS_REFUSED;
     case BOARDID_REFUSED_RULE:
     case BOARDID_REFUSED_TWICE:
     case BOARDID_REFUSED_AFTER_POOL:
@@ -617,8 +612,7 @@ static int find_target(struct job *job, struct input *input, struct image *image
         }
     }
     if (input->length > FILE_MAX) {
-        return refuse(job, STATUS_FILE, -1, "is too long: a file that is changed has at most %d "
-                      "bytes", FILE_MAX);
+        return too_long_to_change(job);
     }
     *own = false;
     if (options->offset == input->length && !options->has_length) {
@@ -633,13 +627,7 @@ static int find_target(struct job *job, struct input *input, struct image *image
     }
     image->offset = offset;
     status = new_room(job, image, room);
-    if (status == STATUS_DONE && *room > ROOM_MAX) {
-        refuse(job, STATUS_REFUSED, BOARDID_REFUSED_TOO_LONG,
-               "%zu bytes of room, and an image has at most 65536", *room);
-        hint(job, "--length 65536, and --offset N where it does not begin at byte 0");
-        return STATUS_REFUSED;
-    }
-    return status;
+    return status == STATUS_DONE && *room > ROOM_MAX ? explain_too_long(job, *room) : status;
 }
 
 /* write: an image from JSON. */
