@@ -9,6 +9,8 @@ from dataclasses import dataclass
 from pathlib import Path
 from typing import Any, Optional, Union
 
+import pytest
+
 import formats as f
 
 HERE = Path(__file__).resolve().parent
@@ -37,6 +39,8 @@ def open_to_all(folder: Path) -> None:
     for above in (folder, *folder.parents[:2]):
         if above == folder or above.name.startswith("pytest-"):
             above.chmod(0o755)
+    if subprocess.run([*OTHER, "test", "-r", str(folder)], check=False).returncode != 0:
+        pytest.skip(f"another user cannot reach {folder}")
 
 
 @dataclass(frozen=True)
