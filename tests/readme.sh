@@ -1,5 +1,5 @@
 #!/usr/bin/env bash
-# Runs what README.md prints: every command of its console blocks, in a copy of the tree, held to the output that stands below it, and its C lines, compiled and run in a small program.
+# Runs what README.md prints: every command of its console blocks, in a copy of the samples, the Python module and what make has built, held to the output that stands below it, and its C lines, compiled and run in a small program.
 # It needs what `make` has built in target/c, and builds nothing of the library. A console block begins with ```console; a line `$ COMMAND` is run, and the lines up to the next one are what it prints, standard error
 # among it. A block that begins with ```sh is only read: it has commands that prove, install or need the kit.
 # The last line is 'readme: N passed, M failed'; the exit status is 0 only where all passed.
@@ -21,9 +21,9 @@ judge() {
     fi
 }
 
-# The tree as a user has it: what is in the repository, and what make has built. The commands may write there.
+# What the commands use of the tree, and what make has built. They may write there.
 mkdir -p "$room/tree/target"
-git ls-files -z | xargs -0 cp --parents -t "$room/tree"
+cp -r samples python "$room/tree"
 cp -rL target/c "$room/tree/target/c"
 mkdir "$room/bin"
 ln -s "$room/tree/target/c/boardid" "$room/bin/boardid"
