@@ -133,11 +133,14 @@ def test_typed_in_a_shell() -> None:
         terminal.tmux("send-keys", "-l", "clear")
         terminal.tmux("send-keys", "Enter")
         terminal.tmux("send-keys", "-l", "boardid ge\ton\tSerial\t")
-        time.sleep(1)
         terminal.tmux("send-keys", "-l", "; echo status $?")
         terminal.tmux("send-keys", "Enter")
-        time.sleep(0.5)
-        lines = terminal.screen().splitlines()
+        lines: list[str] = []
+        for _ in range(400):
+            lines = terminal.screen().splitlines()
+            if any(line.startswith("status ") for line in lines):
+                break
+            time.sleep(0.05)
         typed = next(line for line in lines if "boardid get onie.bin " in line)
         assert "Serial" in typed and "Number" in typed, lines
         assert "LAB-000471" in lines and "status 0" in lines, lines

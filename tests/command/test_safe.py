@@ -13,7 +13,7 @@ import subprocess
 import threading
 import time
 from pathlib import Path
-from typing import Callable, Optional
+from typing import Callable, Optional, TextIO
 
 import pytest
 
@@ -575,17 +575,27 @@ def test_two_boards_of_a_new_room_file_at_once(tmp_path: Path) -> None:
         path.unlink()
 
 
+def opened_for_a_reader(fifo: Path) -> TextIO:
+    """A pipe to write to, as soon as another has opened it to read."""
+    for _ in range(2000):
+        try:
+            return open(os.open(fifo, os.O_WRONLY | os.O_NONBLOCK), "w", encoding="ascii")
+        except OSError:
+            time.sleep(0.01)
+    raise AssertionError("nobody reads the pipe")
+
+
 @pytest.mark.parametrize("more", [[], ["-i"]], ids=["replaced", "in place"])
-def test_a_file_that_changes_while_json_comes(more: list[Word], copy: Copy) -> None:
-    path = copy("onie.bin")
-    fields = json.dumps([{"name": "Serial Number", "value": "LATE"}]).encode()
+def test_a_file_that_changes_while_json_comes(more: list[Word], copy: Copy, tmp_path: Path) -> None:
+    path, fields = copy("onie.bin"), tmp_path / "fields"
+    os.mkfifo(fields)
     for changed in (NEW, b"short", OLD + b"\xff"):
         path.write_bytes(OLD)
-        late = subprocess.Popen([COMMAND, "write", "-f", "onie", *map(str, more), path], stdin=subprocess.PIPE, stdout=subprocess.DEVNULL, stderr=subprocess.PIPE)
-        assert late.stdin is not None
-        time.sleep(0.2)
-        path.write_bytes(changed)
-        said = late.communicate(fields)[1]
+        late = subprocess.Popen([COMMAND, "write", "-f", "onie", *map(str, more), path, fields], stdout=subprocess.DEVNULL, stderr=subprocess.PIPE)
+        with opened_for_a_reader(fields) as pipe:  # which the command is after it has read the file
+            path.write_bytes(changed)
+            json.dump([{"name": "Serial Number", "value": "LATE"}], pipe)
+        said = late.communicate(timeout=20)[1]
         longer = bool(more) and changed.startswith(OLD)
         assert late.returncode == (DONE if longer else FAILED), said
         if not longer:

@@ -57,7 +57,7 @@ class Terminal:
         """Types a line and waits until it is done; gives the screen."""
         self.tmux("send-keys", "-l", f"{line}; printf 'done %s\\n' $?")
         self.tmux("send-keys", "Enter")
-        for _ in range(100):
+        for _ in range(400):
             screen = self.screen()
             if any(shown.startswith("done ") for shown in screen.splitlines()):
                 return screen
