@@ -310,7 +310,7 @@ void stored_datetime(const char *word, struct text *value);
 
 /* A Tiny pool that is being changed. */
 struct pool {
-    uint8_t bytes[256 + 256]; /* the second half is for what makes it too long */
+    uint8_t bytes[256 + 256]; /* room to spare: a pool has at most 255 */
     size_t length;
     bool changed;
     int taken; /* a string that the entry counts by now, which may not be rewritten; -1: none */
