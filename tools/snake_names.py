@@ -90,12 +90,13 @@ def turn_words(text, table):
     return turn(text, {old: new for old, new in table.items() if "-" not in old})
 
 
-def turn_code(text, table, comment):
+def turn_code(text, table, words, comment):
+    """Code by one table; what stands after `comment` by the other."""
     lines = []
     for line in text.split("\n"):
         at = line.find(comment)
         at = len(line) if at < 0 else at
-        lines.append(turn(line[:at], table) + turn_words(line[at:], table))
+        lines.append(turn(line[:at], table) + turn_words(line[at:], words))
     return "\n".join(lines)
 
 
@@ -120,19 +121,21 @@ def main():
         print("fall together:", new, *sorted(olds))
     if "--list" in sys.argv or together:
         return 1 if together else 0
+    # functions of the sources have two of those names, so sources and prose keep them
+    words = {old: new for old, new in table.items() if old not in OTHERWISE}
     for path in files(root, ["crates"], (".antt",)):
         text = read(path)
         here = table
         if path.endswith("/Proof.antt"):
             own = set(re.findall(r"^(?:abbrev\s+)?(?:pub\s+)?(\S+)\s*:\s*tie\.", text, re.M))
-            here = {old: new for old, new in table.items() if old not in own and old not in FIELDS}
-        write(path, turn_code(text, here, "--"), text)
+            here = {old: new for old, new in table.items() if old not in own and old not in FIELDS and old not in ("four_bytes", "two_digits")}
+        write(path, turn_code(text, here, words, "--"), text)
     for path in files(root, ["crates"], (".rt",)):
         text = read(path)
-        write(path, turn_code(text, table, "//"), text)
+        write(path, turn_code(text, words, words, "//"), text)
     for path in files(root, ["README.md", "docs", "tests"], (".md",)):
         text = read(path)
-        write(path, re.sub(r"`([^`\n]*)`", lambda found: "`" + turn(found.group(1), table) + "`", text), text)
+        write(path, re.sub(r"`([^`\n]*)`", lambda found: "`" + turn(found.group(1), words) + "`", text), text)
     return 0
 
 

@@ -1,4 +1,6 @@
 // The image's own refusals: an image is taken, with where its entries are, or refused.
+#![tactic(auto)]
+
 ghost use Rattle.std.specs.Prelude.{◌≡◌, Bool, false, List, ◌-◌, ◌≤◌, ◌<◌, length};
 ghost use Rattle.layout.specs.Bytes.{part};
 ghost use Rattle.layout.specs.Shape.{Label};
@@ -14,21 +16,21 @@ ghost use Rattle.accept.specs.Taken.{room_taken, taken};
 use layout::{Chosen, Format, Next, Opened, Place, Refusal};
 
 // What the rules and the required fields come to: a refusal's number and place, or nothing.
-#[derive(Drop)]
+#[derive(Clone, Copy)]
 pub enum Judgement {
     Fine,
     Faulty(u32, usize),
 }
 
 // How a pass over the entries ends: with so many of them at a place, and what the rules come to; or with a refusal's number at a place.
-#[derive(Drop)]
+#[derive(Clone, Copy)]
 pub enum Ending {
     Ends(usize, usize, Judgement),
     Stops(u32, usize),
 }
 
 // Where the entries of an accepted image are, and how many: they start at `start`, have room up to `end`, and end at `over`.
-#[derive(Drop)]
+#[derive(Clone, Copy)]
 pub struct Room {
     pub format: Format,
     pub start: usize,
@@ -37,7 +39,7 @@ pub struct Room {
     pub count: usize,
 }
 
-#[derive(Drop)]
+#[derive(Clone, Copy)]
 pub enum Taken {
     Is(Room),
     Isnt(Refusal),

@@ -26,15 +26,18 @@ tiles-next : (p : ℕ) (xs : List Entry) (q j : ℕ) (x y : Entry) → Tiles p x
 tiles-next p (x ∷ []) q zero _ _ t here (there i) = no_item i
 tiles-next p (x ∷ y ∷ xs) q zero _ _ t here (there here) = omega (arith, t.0, t.4.0)
 tiles-next p (z ∷ xs) q (suc j) x y t (there i) (there k) = tiles-next (p + z.size) xs q j x y t.4 i k
+tiles-next p [] q j x y t x5 _ = elim x5 [ ]
 
 tiles-whole : (p : ℕ) (xs : List Entry) (q j : ℕ) (x : Entry) → Tiles p xs q → Item xs j x → x.place.0 + x.size ≡ x.value.place.0 + x.value.len
 tiles-whole p (x ∷ xs) q zero _ t here = omega (arith, t.0, t.3)
 tiles-whole p (z ∷ xs) q (suc j) x t (there i) = tiles-whole (p + z.size) xs q j x t.4 i
+tiles-whole p [] q j x t x4 = elim x4 [ ]
 
 tiles-last : (p : ℕ) (xs : List Entry) (q j : ℕ) (x : Entry) → Tiles p xs q → Item xs j x → suc j ≡ length xs → x.place.0 + x.size ≡ q
 tiles-last p (x ∷ []) q zero _ t here e = omega (arith, t.0, t.4)
 tiles-last p (x ∷ y ∷ xs) q zero _ t here e = absurd (omega (arith, e))
 tiles-last p (z ∷ xs) q (suc j) x t (there i) e = tiles-last (p + z.size) xs q j x t.4 i (omega (arith, e))
+tiles-last p [] q j x t x5 e = elim x5 [ ]
 
 -- ---- as C reads them
 

@@ -271,6 +271,7 @@ written-from-c f e xs values out z bs =
 alike-item : {g : Format} {o : ℕ} {image : List ℕ} {xs ys : List Entry} {j : ℕ} {x : Entry} → AllAlike g o image xs ys → Item xs j x → (y : Entry) × Item ys j y × Alike g o image x y
 alike-item (also {y = y} a more) here = (y, here, a)
 alike-item (also a more) (there i) = let r = alike-item more i in (r.0, there r.1, r.2)
+alike-item {g = g} {o = o} {image = image} {j = j} Rattle.promises.specs.OlderReads.none x8 = elim x8 [ ]
 
 module _ (g : Format) (o : ℕ) (image older newer : List ℕ) (j : ℕ) (x y : Entry) (a : Alike g o image x y)
     (old : (k : ℕ) → k < 16 → record_word older j k ≡ get_or (record_words o x) k 0) (n : ℕ) (le : o ≤ n)

@@ -135,6 +135,7 @@ record-at e (x ∷ xs) t zero _ here = ap (take 64) (append_assoc (record_bytes 
 record-at e (y ∷ xs) t (suc j) x (there i) =
     let q : suc j * 64 ≡ length (record_bytes e y) + j * 64 = omega (arith, length-record e y) in
     rw (q, append_assoc (record_bytes e y) (records_bytes e xs) t, drop-append-add (record_bytes e y) (records_bytes e xs ++ t) (j * 64)) (record-at e xs t j x i)
+record-at e [] t j x x3 = elim x3 [ ]
 
 -- what the list call gives with room enough is the list of the image that is read
 pub record Listing (f e : ℕ) (img : List ℕ) (entries : List Entry) : Type 0 where

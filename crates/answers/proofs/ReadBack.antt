@@ -34,11 +34,13 @@ use Rattle.answers.proofs.Lent.{packed-taken, lists-read, list-lent}
 pub each_item : {A : Type 0} {P : A → Type 0} {xs : List A} {j : ℕ} {x : A} → Each P xs → Item xs j x → P x
 each_item (also p ps) here = p
 each_item (also p ps) (there i) = each_item ps i
+each_item {A = A} {P = P} {j = j} Rattle.layout.specs.Each.none x6 = elim x6 [ ]
 
 -- an item of a list that a function was carried over
 pub map-item : {A B : Type 0} (f : A → B) (xs : List A) (j : ℕ) (y : B) → Item (map f xs) j y → (x : A) × (Item xs j x × (f x ≡ y))
 map-item f (x ∷ xs) zero _ here = (x, (here, refl))
 map-item f (x ∷ xs) (suc j) y (there i) = let r = map-item f xs j y i in (r.0, (there r.1.0, r.1.1))
+map-item {A = A} {B = B} f [] j y x' = elim x' [ ]
 
 pub item-some : {A : Type 0} (xs : List A) (j : ℕ) → j < length xs → (x : A) × Item xs j x
 item-some [] j lt = absurd (omega arith)

@@ -1,8 +1,10 @@
 // The types of vendor blocks that the definitions of specs/ and the code of the other crates share. There is no function here.
+#![tactic(auto)]
+
 use layout::{Part, Refusal};
 
 // The offsets of a dual-band amplifier, in tenths of a decibel (003, "BiDi Amplifiers").
-#[derive(Drop)]
+#[derive(Clone, Copy)]
 pub struct Offsets {
     pub c_west_in: i8,
     pub c_west_out: i8,
@@ -15,7 +17,7 @@ pub struct Offsets {
 }
 
 // What a payload says: where its serial and its block stand, by places that count bytes of the payload, and the offsets.
-#[derive(Drop)]
+#[derive(Clone, Copy)]
 pub struct Block {
     pub serial: Part,
     pub block: Part,
@@ -23,14 +25,14 @@ pub struct Block {
 }
 
 // What a payload comes to: what it says, or the number of the refusal.
-#[derive(Drop)]
+#[derive(Clone, Copy)]
 pub enum Said {
     Says(Block),
     Wrong(u32),
 }
 
 // The answer of a vendor read: the length of the payload, and what it says.
-#[derive(Drop)]
+#[derive(Clone, Copy)]
 pub enum Vended {
     Tells(usize, Block),
     Unread(Refusal),

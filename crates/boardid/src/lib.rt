@@ -1,4 +1,6 @@
 // The calls from C. Each takes the edition of the caller's header; docs/C-INTERFACE.md has the layouts and the packed answer.
+#![tactic(auto)]
+
 ghost use Rattle.std.specs.Prelude.{◌≡◌, ℕ, ◌+◌, ◌*◌, ◌/◌, ◌≤◌, ◌<◌, List, length};
 ghost use Rattle.layout.specs.Editions.{shape};
 ghost use Rattle.layout.specs.Bytes.{refusal};

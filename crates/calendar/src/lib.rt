@@ -1,4 +1,6 @@
 // Days of the Gregorian calendar, times of a day, and the numbers that digits of a value show.
+#![tactic(auto)]
+
 ghost use Rattle.std.specs.Prelude.{◌≡◌, ◌+◌, ◌*◌, ◌-◌, ◌≤◌};
 ghost use Rattle.layout.specs.Calendar.{leap, last_day, is_day, is_time, two_digits, four_digits};
 
@@ -95,7 +97,7 @@ fn shown(x: u8, y: u8) -> u32
 }
 
 // The number that two digits from place i on show; a byte that is not there counts as 0.
-pub fn two-digits(v: &[u8], i: usize) -> u32
+pub fn two_digits(v: &[u8], i: usize) -> u32
     ensures { result ≡ two_digits i v.now }
 {
     if v.len() <= i {

@@ -1,4 +1,6 @@
 // Runs the cases that 01 marks Run, 000's full example, 002's, a write, 02's name with a dot, ONIE images, 003's payload in both cuts, and machine-room files: a line for each, "ok" or "WRONG".
+#![tactic(auto)]
+
 use blocks::{Block, Vended};
 use layout::{Checked, Entry, Located, Lookup, Made, Part, Place, Reading, Refusal, StringNumber};
 

@@ -1,4 +1,6 @@
 // Checks of a slice of bytes, of 16 bits, of 8 and of 32, each by constant tables of remainders.
+#![tactic(auto)]
+
 ghost use Rattle.std.specs.Prelude.{◌≡◌, [], ◌∷◌, ◌++◌, map, ℕ, ◌/◌, ◌%◌};
 ghost use Rattle.crc.specs.Crc.{byte_in, remainder, ahead, check_of, mirror, mirrored, polynomial16, polynomial8, polynomial32, check16_of, check8_of, check32_of};
 ghost use Rattle.std.specs.Int.Bits.{bit_xor};

@@ -1,4 +1,6 @@
 // An image with one entry changed, added or removed, into a second buffer.
+#![tactic(auto)]
+
 ghost use Rattle.std.specs.Prelude.{◌≡◌, ◌+◌, ◌≤◌, length};
 ghost use Rattle.layout.specs.Bytes.{refusal};
 ghost use Rattle.layout.specs.Editions.{shape};
@@ -18,7 +20,7 @@ use frames::Spot;
 use layout::{Chosen, Field, Format, Frame, Made, Next, Place, Refusal};
 
 // What is new among the bytes of entries: nothing, a value of an entry of this code with the bytes that say its length, or a whole entry of this code.
-#[derive(Drop)]
+#[derive(Clone, Copy)]
 enum Fresh {
     Nothing,
     Value(u32),
@@ -26,7 +28,7 @@ enum Fresh {
 }
 
 // Where a new entry goes; or an entry that is the same is there.
-#[derive(Drop)]
+#[derive(Clone, Copy)]
 enum New {
     Seen,
     Goes(usize),

@@ -1,4 +1,6 @@
 // FBOSS v5: its header, its rules and readings, and its check.
+#![tactic(auto)]
+
 ghost use Rattle.std.specs.Prelude.{◌≡◌};
 ghost use Rattle.layout.specs.Fboss.{fboss, fboss_opened, fboss_date, date_rule, fboss_rule, fboss_reading};
 ghost use Rattle.layout.specs.Read.{sealed};
@@ -39,8 +41,8 @@ fn fboss_date(v: &[u8]) -> Date
 {
     Date {
         year: calendar::four_digits(v, 0),
-        month: calendar::two-digits(v, 4),
-        day: calendar::two-digits(v, 6),
+        month: calendar::two_digits(v, 4),
+        day: calendar::two_digits(v, 6),
     }
 }
 

@@ -1,4 +1,6 @@
 // What a field list in lent bytes says: its fields, and the parts of the lent values that a field names.
+#![tactic(auto)]
+
 ghost use Rattle.std.specs.Prelude.{◌≡◌, ◌+◌, ◌≤◌, ◌<◌, length, get_or, [], leb};
 ghost use Rattle.layout.specs.Bytes.{if, part, part_at};
 ghost use Rattle.layout.specs.Editions.{shape};

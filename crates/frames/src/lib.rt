@@ -1,4 +1,6 @@
 // What a call's format and edition come to, and what stands at a place of an image, for any format.
+#![tactic(auto)]
+
 ghost use Rattle.std.specs.Prelude.{◌≡◌, false, ◌-◌, ◌*◌, ◌≤◌};
 ghost use Rattle.layout.specs.Bytes.{if, one_of, part};
 ghost use Rattle.layout.specs.Shape.{fine, faulty, on_length, on_head, next};
@@ -10,7 +12,7 @@ ghost use Rattle.frames.specs.Spots.{spot_at};
 use layout::{Chosen, Format, Frame, Head, Headed, Length, Next, Opened, Reading};
 
 // Where an entry stands: its frame, and the place of its first byte.
-#[derive(Drop)]
+#[derive(Clone, Copy)]
 pub enum Spot {
     At(Frame, usize),
     Nowhere,

@@ -1,4 +1,6 @@
 // A filter of keys, in words that the caller lends: a key that it does not know was never noted in it.
+#![tactic(auto)]
+
 ghost use Rattle.std.specs.Prelude.{◌≡◌, ◌<◌};
 ghost use Rattle.keys.specs.Filter.{hash_byte, hashed, word_at, bit_at, mask, may_know, noted, may_repeat, with_key, key_count, filter_words};
 

@@ -102,9 +102,21 @@ shortest-long n = go (ltb n 128) (ltb n 16384) (ltb n 2097152) refl refl refl
         rw (e₀, e₁, e₂) (λ lt. omega (arith, ltb-false n 128 e₀), λ lt. omega (arith, ltb-false n 16384 e₁), λ lt. omega (arith, ltb-false n 2097152 e₂), omega arith)
 
 -- no bytes say a length in fewer than the shortest
+one-byte : {a n : ℕ} → LengthBytes 4 0 (a ∷ []) n → length (shortest n) ≤ 1
+one-byte (last_byte {b = b} lt) = (shortest-long (0 * 128 + b)).0 (omega arith)
+one-byte (more_byte le says) = elim says [ ]
+
+two-bytes : {a b n : ℕ} → a < 256 → LengthBytes 4 0 (a ∷ b ∷ []) n → length (shortest n) ≤ 2
+two-bytes x₀ (more_byte {b = a} le (last_byte {b = b} lt)) = (shortest-long ((0 * 128 + (a - 128)) * 128 + b)).1 (omega arith)
+two-bytes x₀ (more_byte le (more_byte le₁ says)) = elim says [ ]
+
+three-bytes : {a b c n : ℕ} → a < 256 → b < 256 → LengthBytes 4 0 (a ∷ b ∷ c ∷ []) n → length (shortest n) ≤ 3
+three-bytes x₀ x₁ (more_byte {b = a₀} le₀ (more_byte {b = a₁} le₁ (last_byte {b = b} lt))) = (shortest-long (((0 * 128 + (a₀ - 128)) * 128 + (a₁ - 128)) * 128 + b)).2 (omega arith)
+three-bytes x₀ x₁ (more_byte le (more_byte le₁ (more_byte le₂ says))) = elim says [ ]
+
 pub shortest-least : {n : ℕ} {l : List ℕ} → Each (λ b. b < 256) l → LengthBytes 4 0 l n → length (shortest n) ≤ length l
-shortest-least (also x₀ none) (last_byte {b = b} lt) = (shortest-long (0 * 128 + b)).0 (omega arith)
-shortest-least (also x₀ (also x₁ none)) (more_byte {b = a} le (last_byte {b = b} lt)) = (shortest-long ((0 * 128 + (a - 128)) * 128 + b)).1 (omega arith)
-shortest-least (also x₀ (also x₁ (also x₂ none))) (more_byte {b = a₀} le₀ (more_byte {b = a₁} le₁ (last_byte {b = b} lt))) =
-    (shortest-long (((0 * 128 + (a₀ - 128)) * 128 + (a₁ - 128)) * 128 + b)).2 (omega arith)
+shortest-least none says = elim says [ ]
+shortest-least (also x₀ none) says = one-byte says
+shortest-least (also x₀ (also x₁ none)) says = two-bytes x₀ says
+shortest-least (also x₀ (also x₁ (also x₂ none))) says = three-bytes x₀ x₁ says
 shortest-least {n} (also x₀ (also x₁ (also x₂ (also x₃ xs)))) says = let h = (shortest-long n).3 in omega arith

@@ -1,7 +1,7 @@
 -- Records of entries: what their places point at in the image is what the entries say, and they tile it.
 -- Assumes nothing.
 use Prim.Native.Nat.{ℕ, suc, ◌+◌, ◌≤◌, ◌<◌}
-use mathlib.Core.Path.{◌≡◌, refl, ap, ap₂, sym, ◌∙◌}
+use mathlib.Core.Path.{◌≡◌, refl, ap, ap₂, sym, subst, ◌∙◌}
 use mathlib.Core.List.{List, [], ◌∷◌, ◌++◌, append_assoc, map}
 use mathlib.Core.Bool.{Bool, true, false}
 use native.Mathlib.Omega.{arith}
@@ -68,7 +68,8 @@ module _ {S : Shape} {G : Grammar} (L : Laws S G) where
       let here : pre ++ ((r.bytes ++ flat rs) ++ t) ≡ pre ++ (r.bytes ++ (flat rs ++ t)) = ap (λ (x : List ℕ). pre ++ x) (append_assoc r.bytes (flat rs) t) in
       let there : (pre ++ r.bytes) ++ (flat rs ++ t) ≡ pre ++ (r.bytes ++ (flat rs ++ t)) = append_assoc pre r.bytes (flat rs ++ t) in
       let rest = records-said e (S.last r.frame.code) rs (p + r.frame.size) (pre ++ r.bytes) t fs.2 (omega (arith, length-append pre r.bytes, raw-size fs.1)) in
-      rw here (ap₂ (λ (x : Content) (xs : List Content). x ∷ xs) (entry-said e p r pre (flat rs ++ t) fs.1 q) (rw there at rest))
+      subst (λ (x : List ℕ). map (said x) (entries_of S e p (r ∷ rs)) ≡ map content (r ∷ rs)) (sym here)
+      (ap₂ (λ (x : Content) (xs : List Content). x ∷ xs) (entry-said e p r pre (flat rs ++ t) fs.1 q) (rw there at rest))
 
   key-placed : (b : Bool) (p : ℕ) (r : Raw) → Placed r →
       (p < (key_part b p r).place.0) × ((key_part b p r).place.0 + (key_part b p r).len ≤ p + r.frame.val)

@@ -1,22 +1,23 @@
 // The types that the definitions of specs/ and the code of the other crates share. There is no function here.
+#![tactic(auto)]
 
 // 01's term "place": it counts bytes of the image. In a field it counts bytes of the lent values, in a vendor block bytes of the payload, and in a write's refusal it may be a field's number in the list.
-#[derive(Drop)]
+#[derive(Clone, Copy)]
 pub struct Place(pub usize);
 
 // 01's term "string number": it counts the strings of a Tiny pool, from 0.
-#[derive(Drop)]
+#[derive(Clone, Copy)]
 pub struct StringNumber(pub usize);
 
 // 01's term "part": some of the bytes that were lent, by the place of the first and by length.
-#[derive(Drop)]
+#[derive(Clone, Copy)]
 pub struct Part {
     pub place: Place,
     pub len: usize,
 }
 
 // The layouts; document 01 numbers them 1, 2 and 3, and document 02 adds 4.
-#[derive(Drop)]
+#[derive(Clone, Copy)]
 pub enum Format {
     Fboss,
     Vpd,
@@ -25,14 +26,14 @@ pub enum Format {
 }
 
 // What a call's format and edition come to: a layout, or the number of the refusal.
-#[derive(Drop)]
+#[derive(Clone, Copy)]
 pub enum Chosen {
     Known(Format),
     Unknown(u32),
 }
 
 // 01's term "identity": the string numbers of serial and part, the revision, and two free bytes.
-#[derive(Drop)]
+#[derive(Clone, Copy)]
 pub struct Identity {
     pub serial: StringNumber,
     pub part: StringNumber,
@@ -43,7 +44,7 @@ pub struct Identity {
 }
 
 // 02's term "date": year, month and day of the Gregorian calendar.
-#[derive(Drop)]
+#[derive(Clone, Copy)]
 pub struct Date {
     pub year: u32,
     pub month: u32,
@@ -51,7 +52,7 @@ pub struct Date {
 }
 
 // The time of a date with time.
-#[derive(Drop)]
+#[derive(Clone, Copy)]
 pub struct Time {
     pub hour: u32,
     pub minute: u32,
@@ -59,7 +60,7 @@ pub struct Time {
 }
 
 // 01's term "reading": what an entry's value means.
-#[derive(Drop)]
+#[derive(Clone, Copy)]
 pub enum Reading {
     // any bytes
     Plain,
@@ -81,7 +82,7 @@ pub enum Reading {
 }
 
 // 01's term "entry record".
-#[derive(Drop)]
+#[derive(Clone, Copy)]
 pub struct Entry {
     pub code: u32,
     // 01's term "kind": format × 256 + code where the edition names the code, and else 0
@@ -96,7 +97,7 @@ pub struct Entry {
 }
 
 // A field to be written: a code, and the parts of the lent values that are its key and its value.
-#[derive(Drop)]
+#[derive(Clone, Copy)]
 pub struct Field {
     pub code: u32,
     pub key: Part,
@@ -104,42 +105,42 @@ pub struct Field {
 }
 
 // A number of 01's table or of 02's, and the place that goes with it.
-#[derive(Drop)]
+#[derive(Clone, Copy)]
 pub struct Refusal {
     pub number: u32,
     pub place: Place,
 }
 
 // The answer of a check and of a list: how many entries there are.
-#[derive(Drop)]
+#[derive(Clone, Copy)]
 pub enum Checked {
     Accepted(usize),
     Refused(Refusal),
 }
 
 // The answer for one entry.
-#[derive(Drop)]
+#[derive(Clone, Copy)]
 pub enum Lookup {
     Found(Entry),
     Missing(Refusal),
 }
 
 // The answer that gives a part of the lent image.
-#[derive(Drop)]
+#[derive(Clone, Copy)]
 pub enum Located {
     At(Part),
     Nowhere(Refusal),
 }
 
 // The answer of a write and of an edit: the length of the image, its end included. Of a vendor write: the number of bytes put out.
-#[derive(Drop)]
+#[derive(Clone, Copy)]
 pub enum Made {
     Wrote(usize),
     Unwritten(Refusal),
 }
 
 // What an image's header says: its entries start at the first place, and their room ends before the second.
-#[derive(Drop)]
+#[derive(Clone, Copy)]
 pub enum Opened {
     Room(usize, usize),
     Closed(Refusal),
@@ -147,7 +148,7 @@ pub enum Opened {
 
 // What stands before the length of a value: the code, the key's place and length, and the place where the value's length begins.
 // These places count from the entry's first byte. In a format without keys the key is empty and stands where the value's length begins.
-#[derive(Drop)]
+#[derive(Clone, Copy)]
 pub struct Head {
     pub code: u32,
     pub key: usize,
@@ -155,7 +156,7 @@ pub struct Head {
     pub at: usize,
 }
 
-#[derive(Drop)]
+#[derive(Clone, Copy)]
 pub enum Headed {
     Opens(Head),
     // the entries end here
@@ -165,14 +166,14 @@ pub enum Headed {
 }
 
 // A length that was read, with the place after it, from the entry's first byte; or the number of the refusal.
-#[derive(Drop)]
+#[derive(Clone, Copy)]
 pub enum Length {
     Reads(usize, usize),
     Fails(u32),
 }
 
 // One entry's frame: its head, the place and length of its value, and the length of the whole. Its places count from its first byte.
-#[derive(Drop)]
+#[derive(Clone, Copy)]
 pub struct Frame {
     pub code: u32,
     pub key: usize,
@@ -184,7 +185,7 @@ pub struct Frame {
 }
 
 // What stands at the front of the room that is left.
-#[derive(Drop)]
+#[derive(Clone, Copy)]
 pub enum Next {
     Framed(Frame),
     Ended,

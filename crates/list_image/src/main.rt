@@ -1,4 +1,6 @@
 // Lists the entries of the image on standard input, which follows a format byte and an edition byte (01, "Both sides of each line").
+#![tactic(auto)]
+
 use accept::{Room, Taken};
 use layout::{Entry, Refusal};
 use reader::Here;

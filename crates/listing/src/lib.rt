@@ -1,4 +1,6 @@
 // The list: the entries of an image go into the records that are lent.
+#![tactic(auto)]
+
 ghost use Rattle.std.specs.Prelude.{◌≡◌};
 ghost use Rattle.layout.specs.Calls.{list_entries};
 ghost use Rattle.accept.specs.Taken.{taken};
@@ -9,7 +11,7 @@ use layout::{Checked, Entry, Format, Part, Place, Reading, Refusal};
 use reader::Here;
 
 // What stands at a place of an image, and what else it takes to go on from there.
-#[derive(Drop)]
+#[derive(Clone, Copy)]
 pub struct Cursor {
     pub format: Format,
     pub edition: u32,

@@ -1,4 +1,6 @@
 // Offsets of an amplifier: signed numbers from bytes, and bytes from signed numbers.
+#![tactic(auto)]
+
 ghost use Rattle.std.specs.Prelude.{◌≡◌, ◌<◌, get_or};
 ghost use Rattle.blocks.specs.Offset.{signed, signed_byte, offsets_in, offset_bytes};
 

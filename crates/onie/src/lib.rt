@@ -1,4 +1,6 @@
 // ONIE: its header, its rules and readings, and its check.
+#![tactic(auto)]
+
 ghost use Rattle.std.specs.Prelude.{◌≡◌, ◌≤◌, ◌<◌, [], ◌∷◌, ◌&&◌, eqb, length, get_or};
 ghost use Rattle.layout.specs.Bytes.{if, all, one_of, same_bytes, part};
 ghost use Rattle.layout.specs.Shape.{fine, faulty};
@@ -101,8 +103,8 @@ fn onie_date(v: &[u8]) -> Date
 {
     Date {
         year: calendar::four_digits(v, 6),
-        month: calendar::two-digits(v, 0),
-        day: calendar::two-digits(v, 3),
+        month: calendar::two_digits(v, 0),
+        day: calendar::two_digits(v, 3),
     }
 }
 
@@ -111,9 +113,9 @@ fn onie_time(v: &[u8]) -> Time
     ensures { result ≡ onie_time v.now }
 {
     Time {
-        hour: calendar::two-digits(v, 11),
-        minute: calendar::two-digits(v, 14),
-        second: calendar::two-digits(v, 17),
+        hour: calendar::two_digits(v, 11),
+        minute: calendar::two_digits(v, 14),
+        second: calendar::two_digits(v, 17),
     }
 }
 
@@ -215,6 +217,6 @@ pub fn onie_sealed(image: &[u8], p: usize) -> bool
         return false;
     }
     let c = crc::check32_closed(&image[..p], 0xFE, 0x04);
-    let check = parts::four-bytes(c);
+    let check = parts::four_bytes(c);
     parts::is_stored(image, p + 2, &check)
 }

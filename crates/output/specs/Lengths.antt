@@ -1,4 +1,4 @@
--- Lengths of what is written. A sum that passes every output is cut off: it stays at `too-long`.
+-- Lengths of what is written. A sum that passes every output is cut off: it stays at `too_long`.
 -- Assumes nothing.
 use Rattle.std.specs.Prelude.{ℕ, ◌+◌, [], Bool, ◌&&◌, length, leb}
 use Rattle.layout.specs.Bytes.{if}

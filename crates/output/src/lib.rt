@@ -1,4 +1,6 @@
 // Writing into a lent output: what opens an entry, a value with its length, and the header, end and check of an image.
+#![tactic(auto)]
+
 ghost use Rattle.std.specs.Prelude.{◌≡◌, ℕ, ◌+◌, ◌-◌, ◌≤◌, ◌<◌, [], ◌∷◌, ◌++◌, true, length, take, replicate};
 ghost use Rattle.layout.specs.Bytes.{part};
 ghost use Rattle.layout.specs.Read.{limit};
@@ -337,7 +339,7 @@ fn finish_onie(out: &mut [u8], n: usize)
     copy_at(out, 8, &version_and_length);
     let at = n + 11;
     let c = crc::check32_closed(&out[..at], 0xFE, 0x04);
-    let check = parts::four-bytes(c);
+    let check = parts::four_bytes(c);
     let end = [0xFE, 0x04, check[0], check[1], check[2], check[3]];
     put_end(out, at, &end);
 }

@@ -1,4 +1,6 @@
 // What the readers of several formats do alike: parts of bytes, numbers and checks in them, and entries of one code byte.
+#![tactic(auto)]
+
 ghost use Rattle.std.specs.Prelude.{◌≡◌, ◌+◌, ◌-◌, ◌^◌, ◌≤◌, ◌<◌, length, get_or, leb};
 ghost use Rattle.layout.specs.Bytes.{all, between, same_bytes, part, high_first, refusal};
 ghost use Rattle.layout.specs.Shape.{byte_length, coded_head};
@@ -137,7 +139,7 @@ pub fn count_bytes(s: &[u8]) -> u64
 }
 
 // A number in four bytes, high byte first.
-pub fn four-bytes(n: u32) -> [u8; 4]
+pub fn four_bytes(n: u32) -> [u8; 4]
     ensures { result ≡ four_bytes n }
 {
     [

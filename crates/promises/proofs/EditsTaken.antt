@@ -49,6 +49,7 @@ item-editable : (S : Shape) (e p : ℕ) (rs : List Raw) (i : ℕ) (v : List ℕ)
 unfolding entries_of entry_of edit_rule
 item-editable S e p (r ∷ rs) zero v x here n q = let b = both (S.length_rule r.frame.code (length v)) (S.value_rule r.frame.code v) q in (n, b)
 item-editable S e p (r ∷ rs) (suc i) v x (there t) n q = item-editable S e (p + r.frame.size) rs i v x t n q
+item-editable S e p [] i v x x5 n q = elim x5 [ ]
 
 -- an entry of the list that may be edited
 record Ruled (S : Shape) (e p : ℕ) (rs : List Raw) (i : ℕ) (v : List ℕ) : Type 0 where
@@ -104,6 +105,7 @@ item-sizes g e p b (r ∷ rs) (suc i) v x fs (there t) =
       was = omega (arith, length-append r.bytes (flat rs), s.was);
       becomes = omega (arith, length-append r.bytes (laid ((edit i v).entries (shape g) rs)), s.becomes);
     }
+item-sizes g e p b [] i v x fs x4 = elim x4 [ ]
 
 -- ---- edits of an accepted image
 

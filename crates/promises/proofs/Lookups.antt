@@ -42,6 +42,7 @@ nth-item : (xs : List Entry) (i : ℕ) (x : Entry) → Item xs i x → nth xs i 
 unfolding nth
 nth-item (y ∷ xs) zero x here = refl
 nth-item (y ∷ xs) (suc i) x (there it) = nth-item xs i x it
+nth-item [] i x x3 = elim x3 [ ]
 
 nth_past : (xs : List Entry) (i : ℕ) → length xs ≤ i → nth xs i ≡ Missing (refusal 13 0)
 unfolding nth

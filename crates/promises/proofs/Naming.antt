@@ -45,6 +45,11 @@ named-names Onie e c (since_three le onie2_b) = le-leb 3 e le
 named-names Onie e c (since_three le onie2_c) = le-leb 3 e le
 named-names Onie e c (since_three le onie2_d) = le-leb 3 e le
 named-names Onie e c (since_three le onie_fd) = le-leb 3 e le
+named-names Fboss e c (since_three le x'') = elim x'' [ ]
+named-names Vpd e c (since_three le x3) = elim x3 [ ]
+named-names Tiny e c (since_three le x4) = elim x4 [ ]
+named-names Onie e c (since_one le x5) = elim x5 [ ]
+named-names Onie e c (since_two le x6) = elim x6 [ ]
 
 -- ---- what the table names, 01 or 02 names
 

@@ -106,6 +106,7 @@ fboss-means e c v (since_two le (Two.fboss a z)) rule =
     (λ b₀ b₁ b₂ b₃ b₄ b₅ b₆ b₇.
     rw (base-is b₀ b₁ b₂ b₃ b₄ b₅ (b₆ ∷ b₇ ∷ []), two_bytes b₆ b₇) (FbossMeans.addresses b₀ b₁ b₂ b₃ b₄ b₅ b₆ b₇ a z))
     v (ruled-length 8 3 17 c v (refl, (refl, (refl, refl))) (rw (le-leb 17 c a, le-leb c 20 z)) rule))
+fboss-means e c v (since_three _ x3) rule = elim x3 [ ]
 
 -- ---- Tiny version 2
 
@@ -135,6 +136,7 @@ tiny-means e c lens v (since_two le tiny80) s =
     tagged 0x80 (omega arith) s (λ b₀ b₁ b₂ b₃ b₄ b₅ b₆ b₇. TinyMeans.batched b₀ b₁ b₂ b₃ b₄ b₅ b₆ b₇ (inl refl))
 tiny-means e c lens v (since_two le tiny81) s =
     tagged 0x81 (omega arith) s (λ b₀ b₁ b₂ b₃ b₄ b₅ b₆ b₇. TinyMeans.batched b₀ b₁ b₂ b₃ b₄ b₅ b₆ b₇ (inr refl))
+tiny-means e c lens v (since_three _ x3) s = elim x3 [ ]
 
 -- ---- ONIE
 
@@ -163,6 +165,8 @@ onie-means e c v (since_three le onie2_b) rule = OnieMeans.text (inr (omega arit
 onie-means e c v (since_three le onie2_c) rule = OnieMeans.text (inr (omega arith, omega arith))
 onie-means e c v (since_three le onie2_d) rule = OnieMeans.text (inr (omega arith, omega arith))
 onie-means e c v (since_three le onie_fd) rule = OnieMeans.plain refl
+onie-means e c v (since_one _ x3) rule = elim x3 [ ]
+onie-means e c v (since_two _ x4) rule = elim x4 [ ]
 
 -- ---- any format
 

@@ -90,6 +90,7 @@ item-size g e p b (r ∷ rs) zero y fs here = omega (arith, length-append r.byte
 item-size g e p b (r ∷ rs) (suc i) y fs (there t) =
     let h = item-size g e (p + r.frame.size) ((shape g).last r.frame.code) rs i y fs.2 t in
     omega (arith, length-append r.bytes (flat rs), length-append r.bytes (laid ((removal i).entries (shape g) rs)))
+item-size g e p b [] i y fs x'' = elim x'' [ ]
 
 -- ---- what it tells
 

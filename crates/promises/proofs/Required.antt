@@ -34,6 +34,7 @@ found_among code (c ∷ cs) h = go (eqb code c.code) refl h (found_among code cs
 among-found : (code : ℕ) (cs : List Content) → Among code cs → one_of (content_codes cs) code ≡ true
 unfolding one_of
 among-found code (c ∷ cs) (first e) = rw (eq-eqb code c.code (sym e))
+among-found code [] x' = elim x' [ ]
 among-found code (c ∷ cs) (later a) = go (eqb code c.code) (among-found code cs a)
   where
     go : (b : Bool) → one_of (content_codes cs) code ≡ true → if b (λ _. true) (λ _. one_of (content_codes cs) code) ≡ true

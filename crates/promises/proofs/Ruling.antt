@@ -229,6 +229,7 @@ fboss-passes {v} (FbossValue.addresses w n) = let t = (tells-eq (length v) 8).fr
 fboss-between : {e code : ℕ} → Named Fboss e code → Between 1 20 code
 fboss-between (since_one le (One.fboss a z)) = (a, omega arith)
 fboss-between (since_two le (Two.fboss a z)) = (omega arith, z)
+fboss-between {e = e} {code = code} (since_three _ x'') = elim x'' [ ]
 
 -- ---- VPD 2.0
 
@@ -244,6 +245,7 @@ vpd-key {e} {code} key n = record { to = to n; from = from }
     to : {code : ℕ} → Named Vpd e code → vpd_reader_key code key ≡ true → VpdKey code key
     to (since_one le vpd01) h = VpdKey.string refl ((tells-lt 0 (length key)).to h)
     to (since_two le vpd_fe) h = VpdKey.info refl
+    to (since_three _ x3) h = elim x3 [ ]
 
     from : VpdKey code key → vpd_reader_key code key ≡ true
     from (VpdKey.string is long) = rw is ((tells-lt 0 (length key)).from long)
@@ -264,6 +266,7 @@ vpd-value {e} {code} v n = record { to = to n; from = from }
     to : {code : ℕ} → Named Vpd e code → vpd_rule code v ≡ true → VpdValue code v
     to (since_one le vpd01) h = VpdValue.string refl
     to (since_two le vpd_fe) h = VpdValue.info refl ((tells-eq (length v) 4).to h)
+    to (since_three _ x3) h = elim x3 [ ]
 
     from : VpdValue code v → vpd_rule code v ≡ true
     from (VpdValue.string is) = rw is refl
@@ -305,6 +308,7 @@ tiny-kept v (since_one le tiny61) sized h = identity-kept v (omega arith, omega 
 tiny-kept v (since_one le tiny62) sized h = identity-kept v (omega arith, omega arith) (sized (omega arith)) h
 tiny-kept v (since_two le tiny80) sized h = batched-kept v (omega arith, omega arith) (sized (omega arith)) h
 tiny-kept v (since_two le tiny81) sized h = batched-kept v (omega arith, omega arith) (sized (omega arith)) h
+tiny-kept {e = e} {code = code} v (since_three _ x4) sized h = elim x4 [ ]
 
 tiny-passes : {code : ℕ} {v : List ℕ} → TinyValue code v → tiny_rule code v ≡ true
 unfolding tiny_rule
@@ -373,6 +377,8 @@ onie-kept v (since_three le onie2_b) h = OnieValue.text (inr (inl refl)) ((print
 onie-kept v (since_three le onie2_c) h = let w = (tells-country v).to h in country-kept v w.0 w.1
 onie-kept v (since_three le onie2_d) h = OnieValue.text (inr (inr refl)) ((printables v).to h)
 onie-kept v (since_three le onie_fd) h = OnieValue.vendor refl ((tells-le 4 (length v)).to h)
+onie-kept {e = e} {code = code} v (since_one _ x3) h = elim x3 [ ]
+onie-kept {e = e} {code = code} v (since_two _ x4) h = elim x4 [ ]
 
 -- a value as document 02 has it passes
 onie-passes : {code : ℕ} {v : List ℕ} → OnieValue code v → onie_rule code v ≡ true

@@ -1,4 +1,6 @@
 // The calls that read an image: check, entry n, the value of entry n, a Tiny string, and the walk.
+#![tactic(auto)]
+
 ghost use Rattle.std.specs.Prelude.{◌≡◌, ℕ, ◌+◌, ◌-◌, ◌≤◌, ◌<◌, List, length};
 ghost use Rattle.layout.specs.Bytes.{part};
 ghost use Rattle.layout.specs.Editions.{shape, known_edition, kind};
@@ -16,7 +18,7 @@ use layout::{
 };
 
 // An entry, the place after it, and whether none may follow it.
-#[derive(Drop)]
+#[derive(Clone, Copy)]
 pub struct Standing {
     pub entry: Entry,
     pub next: usize,
@@ -24,14 +26,14 @@ pub struct Standing {
 }
 
 // What stands at a place: an entry, or no more of them.
-#[derive(Drop)]
+#[derive(Clone, Copy)]
 pub enum Here {
     Stands(Standing),
     Over,
 }
 
 // 01's term "walk": it holds format, edition and entry number.
-#[derive(Drop)]
+#[derive(Clone, Copy)]
 pub struct Walk {
     pub format: u32,
     pub edition: u32,
@@ -39,7 +41,7 @@ pub struct Walk {
 }
 
 // The answer of a walk's step, with the walk that is handed back.
-#[derive(Drop)]
+#[derive(Clone, Copy)]
 pub struct Stepped {
     pub answer: Lookup,
     pub next: Walk,

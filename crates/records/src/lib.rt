@@ -1,4 +1,6 @@
 // What goes out to C: the packed answer, and an entry record and a vendor block in lent bytes.
+#![tactic(auto)]
+
 ghost use Rattle.std.specs.Prelude.{◌≡◌, ℕ, ◌+◌, ◌*◌, ◌/◌, ◌≤◌, [], ◌∷◌, length};
 ghost use Rattle.layout.specs.Calls.{told, told_refusal, told_checked, told_located};
 ghost use Rattle.layout.specs.Write.{told_made};

@@ -1,4 +1,6 @@
 // The calls on a machine-room file: add, replace, remove and fetch a board. A body is judged by the reader's check alone.
+#![tactic(auto)]
+
 ghost use Rattle.std.specs.Prelude.{◌≡◌, [], ◌∷◌, ◌++◌, ◌+◌, ◌*◌, ◌≤◌, ◌<◌, length, drop};
 ghost use Rattle.layout.specs.Bytes.{part, high_first, refusal};
 ghost use Rattle.layout.specs.Read.{limit};
@@ -15,7 +17,7 @@ use layout::{Checked, Located, Made, Part, Place, Refusal};
 
 // What rows come to for a board number: how many have a number below it, the bytes of their bodies, the bytes of the body of this number (0 where there is none, since no body is
 // empty), and the bytes of all bodies.
-#[derive(Drop)]
+#[derive(Clone, Copy)]
 struct Tally {
     rows: usize,
     below: usize,
@@ -24,21 +26,21 @@ struct Tally {
 }
 
 // What the rows of a file come to; or one of them is wrong.
-#[derive(Drop)]
+#[derive(Clone, Copy)]
 enum Scan {
     Right(Tally),
     Wrong,
 }
 
 // How many boards a file has and what their rows come to; or what refuses the file.
-#[derive(Drop)]
+#[derive(Clone, Copy)]
 enum Found {
     At(usize, Tally),
     Not(Refusal),
 }
 
 // Every body is accepted; or what refuses the first that is not.
-#[derive(Drop)]
+#[derive(Clone, Copy)]
 enum Judged {
     Fine,
     Faulty(Refusal),

@@ -1,1 +1,2 @@
 // No code: proofs/ has the worked cases of the machine-room file.
+#![tactic(auto)]

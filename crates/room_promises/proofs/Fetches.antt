@@ -63,6 +63,7 @@ among-stands (b ∷ bs) first = record { before = []; after = bs; whole = refl }
 among-stands (c ∷ bs) (later a) =
     let s = among-stands bs a in
     record { before = c ∷ s.before; after = s.after; whole = ap (λ (x : List Board). c ∷ x) s.whole }
+among-stands {b = b} [] x' = elim x' [ ]
 
 -- ---- its body
 

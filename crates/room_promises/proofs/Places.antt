@@ -60,6 +60,7 @@ row_at (c ∷ bs) (suc k) b t (there i) =
     let rest : drop (8 * suc k) (row_of c ++ rows_of bs ++ t) ≡ drop (8 * k) (rows_of bs ++ t) =
     rw (on, append_assoc (row_of c) (rows_of bs) t, ← drop-drop (8 * k) 8 (row_of c ++ (rows_of bs ++ t)), drop_at (row_of c) (rows_of bs ++ t) 8 (row-length c)) in
     record { more = x.more; is = rest ∙ x.is }
+row_at [] k b' t x' = elim x' [ ]
 
 body-at : (bs : List Board) (k : ℕ) (b : Board) → Item bs k b → From (drop (bytes_before bs k) (bodies_of bs)) b.body
 unfolding bodies_of
@@ -68,10 +69,12 @@ body-at (c ∷ bs) (suc k) b (there i) =
     let x = body-at bs k b i in
     let n = length c.body in
     record { more = x.more; is = sym (drop-drop (bytes_before bs k) n (c.body ++ bodies_of bs)) ∙ ap (drop (bytes_before bs k)) (drop_at c.body (bodies_of bs) n refl) ∙ x.is }
+body-at [] k b' x' = elim x' [ ]
 
 item-each : {P : Board → Type 0} {bs : List Board} {k : ℕ} {b : Board} → Each P bs → Item bs k b → P b
 item-each (also p ps) here = p
 item-each (also p ps) (there i) = item-each ps i
+item-each {P = P} {k = k} {b = b} Rattle.layout.specs.Each.none x3 = elim x3 [ ]
 
 row_lies : (form : ℕ) (file : List ℕ) (bs : List Board) → IsFile form file bs → (k : ℕ) (b : Board) → Item bs k b → RowLies file bs k b
 unfolding row_of part

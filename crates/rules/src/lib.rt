@@ -1,4 +1,6 @@
 // The writer's rules: a field list is sound, with the length of the entries that it makes, or one of its fields is refused.
+#![tactic(auto)]
+
 ghost use Rattle.std.specs.Prelude.{◌≡◌, false, ◌≤◌, ◌<◌, length, take};
 ghost use Rattle.layout.specs.Editions.{shape};
 ghost use Rattle.layout.specs.Read.{seen_before};
@@ -12,7 +14,7 @@ ghost use Rattle.rules.specs.Fields.{field_labels, judged_fields};
 use layout::{Field, Format};
 
 // What the pass over a field list finds: the length of the entries that the fields make, cut off; or a refusal's number and a field's number.
-#[derive(Drop)]
+#[derive(Clone, Copy)]
 pub enum Fields {
     Sound(usize),
     Unsound(u32, usize),

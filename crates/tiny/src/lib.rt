@@ -1,4 +1,6 @@
 // Tiny EEPROM version 2: its header, what opens an entry, lengths, rules and readings, and its check.
+#![tactic(auto)]
+
 ghost use Rattle.std.specs.Prelude.{◌≡◌, get_or};
 ghost use Rattle.layout.specs.Tiny.{tiny, tiny_opened, tiny_head, tiny_length, tiny_takes, revision_rule, batch, tiny_rule, passed, identity, tiny_reading};
 ghost use Rattle.layout.specs.Read.{sealed};

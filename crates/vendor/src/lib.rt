@@ -1,4 +1,6 @@
 // Vendor blocks: a payload that is split over FDh entries of an ONIE image is joined, judged and given, or made and cut into values.
+#![tactic(auto)]
+
 ghost use Rattle.std.specs.Prelude.{◌≡◌, true, List, [], ◌++◌, map, ℕ, ◌+◌, ◌≤◌, ◌<◌, length, get_or, drop, take};
 ghost use Rattle.layout.specs.Bytes.{if, part, same_bytes, refusal};
 ghost use Rattle.layout.specs.Walk.{content};
@@ -18,14 +20,14 @@ use layout::{Chosen, Format, Made, Next, Part, Place, Refusal};
 const PREFIX: [u8; 5] = [0x00, 0x00, 0x1F, 0x79, 0x00];
 
 // What the matching entries of an image come to: whether there is one, and how many bytes their payload has.
-#[derive(Drop)]
+#[derive(Clone, Copy)]
 pub struct Joined {
     pub found: bool,
     pub len: usize,
 }
 
 // How many pieces there are; or they are not those of the payload.
-#[derive(Drop)]
+#[derive(Clone, Copy)]
 pub enum Pieces {
     Right(usize),
     Wrong,
@@ -120,7 +122,7 @@ fn is_checked(payload: &[u8]) -> bool
     }
     let n = payload.len() - 4;
     let c = crc::check32(&payload[..n]);
-    let check = parts::four-bytes(c);
+    let check = parts::four_bytes(c);
     parts::is_stored(payload, n, &check)
 }
 
@@ -326,7 +328,7 @@ fn put_payload(own: &mut [u8], serial: &[u8], offsets: Offsets)
     put_front(own, serial, offsets);
     let n = 12 + serial.len();
     let c = crc::check32(&own[..n]);
-    let check = parts::four-bytes(c);
+    let check = parts::four_bytes(c);
     output::copy_at(own, n, &check);
 }
 

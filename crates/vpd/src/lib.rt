@@ -1,4 +1,6 @@
 // VPD 2.0: what opens an entry, its length bytes and its rules.
+#![tactic(auto)]
+
 ghost use Rattle.std.specs.Prelude.{◌≡◌, ◌&&◌, ◌≤◌, ltb, length, get_or};
 ghost use Rattle.layout.specs.Bytes.{all};
 ghost use Rattle.layout.specs.Vpd.{groups, keyed_head, vpd_head, key_byte, vpd_reader_key, vpd_writer_key, vpd_rule};

@@ -1,4 +1,6 @@
 // Writing an image from a field list that lies in lent bytes.
+#![tactic(auto)]
+
 ghost use Rattle.std.specs.Prelude.{◌≡◌, ◌+◌, ◌≤◌, length};
 ghost use Rattle.layout.specs.Editions.{shape};
 ghost use Rattle.layout.specs.Read.{limit};

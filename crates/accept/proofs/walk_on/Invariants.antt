@@ -1,0 +1,13 @@
+use Prim.Native.Nat.{◌-◌, ◌≤◌}
+use mathlib.Core.Path.{◌≡◌}
+use Rattle.layout.specs.Bytes.{part}
+use Rattle.layout.specs.Editions.{shape}
+use Rattle.layout.specs.Walk.{walk}
+use Rattle.accept.specs.Passes.{walk_ending}
+use Rattle.accept.proofs.walk_on.Given as goal
+
+abbrev pub invariant-loop-f : goal.invariant-loop-f
+invariant-loop-f l = (l.q ≤ l.end) × (l.count ≤ l.q) × (walk_ending l.n l.judgement (walk (shape l.format) l.shut l.start (part l.start (l.end - l.start) l.image)) ≡ walk_ending l.count l.judgement (walk (shape l.format) l.closed l.q (part l.q (l.end - l.q) l.image)))
+
+abbrev pub decreases-loop-f : goal.decreases-loop-f
+decreases-loop-f l = l.end - l.q

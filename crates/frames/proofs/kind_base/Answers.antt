@@ -1,0 +1,24 @@
+-- `frames::kind_base` meets its contract: the number of each format.
+-- Assumes nothing.
+use borrow.Author.Rules.{rules}
+use Rattle.layout.specs.Fboss.{fboss}
+use Rattle.layout.specs.Vpd.{vpd}
+use Rattle.layout.specs.Tiny.{tiny}
+use Rattle.layout.specs.Onie.{onie}
+use Rattle.frames.proofs.kind_base.Goals as goal
+
+pub returns-in-Fboss : goal.returns-in-Fboss
+unfolding fboss
+returns-in-Fboss c = rw c.in-Fboss.is (search rules)
+
+pub returns-in-Vpd : goal.returns-in-Vpd
+unfolding vpd
+returns-in-Vpd c = rw c.in-Vpd.is (search rules)
+
+pub returns-in-Tiny : goal.returns-in-Tiny
+unfolding tiny
+returns-in-Tiny c = rw c.in-Tiny.is (search rules)
+
+pub returns-in-Onie : goal.returns-in-Onie
+unfolding onie
+returns-in-Onie c = rw c.in-Onie.is (search rules)
