@@ -1,7 +1,7 @@
 #!/usr/bin/env bash
 # The tests from outside, as the gate runs them: the second reader's own tests, then the comparison of libboardid.a with it.
 # Prints one line for each; exit status 0 only where both passed. The folder of libboardid.a is BOARDID_LIB, else
-# target/staticlib of the repository, where `rt staticlib boardid` puts it.
+# target/staticlib of the repository, where `make` puts it.
 set -uo pipefail
 [ -z "${BOARDID_LIB:-}" ] || { BOARDID_LIB=$(realpath "$BOARDID_LIB") && export BOARDID_LIB; }
 cd "$(dirname "$0")"

@@ -122,7 +122,7 @@ copy_tree() {
             if [ -e "$file" ] || [ -L "$file" ]; then printf '%s\0' "$file"; fi
         done | tar --null --no-recursion -T - -cf - | tar -xf - -C "$room/tree"
     else
-        tar --exclude=./target --exclude=./host/*/target -cf - . | tar -xf - -C "$room/tree"
+        tar --exclude=./target --exclude=./host/*/target --exclude=./crates/*/out -cf - . | tar -xf - -C "$room/tree"
     fi
     [ -f "$room/tree/debian/rules" ]
 }

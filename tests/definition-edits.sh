@@ -4,7 +4,7 @@
 # be a definition. NAME.proof beside it proves `pub false : STATEMENT → ⊥` over the edited definitions, STATEMENT being one that crates/promises proves of the
 # right ones, or crates/room_promises of those of rooms: so it is a promise that refuses the edit, and not a proof that no longer fits. It may use
 # Instances.proof, or RoomInstances.proof; the copy has the definitions and the statements, and no other proof and no worked case. RT_JOBS edits are tried at a
-# time, 2 where it is not set.
+# time, 2 where it is not set. `rt all check` says in its last lines of each crate how it went, as 'NAME: ok'.
 set -euo pipefail
 cd "$(dirname "$0")/.."
 room=$(mktemp -d)
@@ -22,9 +22,9 @@ base() {
             [ ! -d "crates/$crate/$part" ] || cp -R "crates/$crate/$part" "$room/$folder/crates/$crate/$part"
         done
         [ "$crate" != crc ] || cp -R crates/crc/proofs "$room/$folder/crates/crc/proofs"
-        grep "^$crate:" crates.txt >>"$room/$folder/crates.txt"
+        grep -E "^$crate( [^:]*)?:" crates.txt >>"$room/$folder/crates.txt"
     done
-    (cd "$room/$folder" && rt check >"$room/$folder.log" 2>&1) ||
+    (cd "$room/$folder" && rt all check >"$room/$folder.log" 2>&1) ||
         { tail -n 20 "$room/$folder.log"; echo "definition edits: without an edit, not all of $* is proved"; exit 1; }
 }
 
@@ -42,14 +42,14 @@ statement() {
     local said
     said=$(sed -n 's/^pub false : \([A-Z][A-Za-z]*\) → ⊥$/\1/p' "$1")
     [ -n "$said" ] || { echo "it has no line \`pub false : STATEMENT → ⊥\`"; return 1; }
-    grep -qE "^pub [a-z-]+ : $said\$" crates/"$2"/proofs/*.antt || { echo "$said is no statement that $2 proves"; return 1; }
-    grep -qE "^use Rattle·$2·specs\.specs\.[A-Za-z]+\.\{(.*, )?$said(, .*)?\}\$" "$1" || { echo "$said is not that of $2"; return 1; }
+    grep -qE "^pub [a-z0-9_-]+ : $said\$" crates/"$2"/proofs/*.antt || { echo "$said is no statement that $2 proves"; return 1; }
+    grep -qE "^use Rattle\.$2\.specs\.[A-Za-z]+\.\{(.*, )?$said(, .*)?\}\$" "$1" || { echo "$said is not that of $2"; return 1; }
     echo "$said"
 }
 
 # accepted LOG EDIT: the definitions were accepted, by this log: those of layout and blocks, and those of rooms where it edits them
 accepted() {
-    grep -q '^rt: layout proved' "$1" && grep -q '^rt: blocks proved' "$1" && { ! ofRooms "$2" || grep -q '^rt: rooms proved' "$1"; }
+    grep -qx 'layout: ok' "$1" && grep -qx 'blocks: ok' "$1" && { ! ofRooms "$2" || grep -qx 'rooms: ok' "$1"; }
 }
 
 # tries one edit
@@ -72,12 +72,12 @@ try() {
     bad=$(tests/apply-edit.sh "$edit" "$copy") || bad=${bad:-'it does not apply'}
     if [ -n "$bad" ]; then
         verdict "$label" failed "BAD EDIT: $bad"
-    elif (cd "$copy" && RT_JOBS=1 rt check >"$room/$label.log" 2>&1); then
+    elif (cd "$copy" && rt all check --jobs 1 >"$room/$label.log" 2>&1); then
         verdict "$label" shown "$said is false of it"
     elif ! accepted "$room/$label.log" "$edit"; then
         verdict "$label" failed 'BAD EDIT: the definitions are no longer accepted'
     else
-        verdict "$label" failed "$said is NOT SHOWN to be false of it: $(grep -m 1 -o 'crates/[a-z_]*/[a-z]*/[^ ]*: error.*' "$room/$label.log" | cut -c 1-300)"
+        verdict "$label" failed "$said is NOT SHOWN to be false of it: $(grep -m 1 -oE '(specs|proofs|src)/[^ ]*: error.*' "$room/$label.log" | cut -c 1-300)"
     fi
     rm -rf "$room/copy-$label"
 }

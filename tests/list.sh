@@ -9,15 +9,15 @@ passed=0 failed=0
 
 # A copy of what the script needs of the repository, in a folder with a blank in its name, and a list of crates that does not change with the repository's.
 tree="$work/a tree"
-mkdir -p "$tree/target/bin" "$tree/target/stamp" "$work/bin" "$work/other" "$work/tmp"
+mkdir -p "$tree/crates/list_image/out" "$work/bin" "$work/other" "$work/tmp"
 cp "$here/list" "$tree/list"
 cat >"$tree/crates.txt" <<'END'
 # A line for each crate: its name, and the crates that it depends on.
 base:
 words: base   # of a comment
 forms: words base
-apart: forms words
-list_image: forms base io libc
+apart staticlib: forms words
+list_image: forms base
 END
 
 # The stand-in for rt: keeps its words and its folder, and does what the test's plan says.
@@ -38,28 +38,28 @@ chmod 755 "$work/bin/rt" "$work/program"
 FAKE=$work TMPDIR=$work/tmp PATH=$work/bin:$PATH
 export FAKE TMPDIR PATH
 
-# What the plans say: a stand-in for the program at its place, the stamps of all crates, and rt's line of a crate.
+# What the plans say: a stand-in for the program at its place, rt's lines of a crate that it proved, of a program that has not changed, and of its run, in which the program reads nothing.
 cat >"$work/lib" <<'END'
-build() { cp "$FAKE/program" target/bin/list_image; }
-stamps() { for name in base words forms list_image; do : >"target/stamp/$name"; done; }
-same() { echo "rt: $1 proved (unchanged since it was last proved)"; }
+build() { cp "$FAKE/program" out/list_image; }
+proves() { echo "rt: chose --jobs 2 for $1"; echo "fn $1::one: proved"; echo "crate $1: modules loaded=3 checked=1"; echo 'axioms std: none'; echo 'logic=proved functions=1 sum=0'; }
+same() { echo 'rt: nothing has changed since the last proved build, by out/list_image.stamp, so nothing is checked now'; }
+runs() { echo 'rt: running out/list_image; to give it other input, run that file yourself'; echo 'refused 16 at 0'; echo 'crate base: modules'; echo 'logic=proved'; }
 END
 plan() {
     { cat "$work/lib"; cat; } >"$work/plan"
 }
 unchanged() {
     plan <<'END'
-same base; same words; same forms; same list_image; echo 'rt: 4 crates proved'
+same >&2; runs
 END
-    (cd "$tree" && sh -c '. "$FAKE/lib"; build; stamps')
+    (cd "$tree/crates/list_image" && sh -c '. "$FAKE/lib"; build')
 }
 fresh() {
     plan <<'END'
-echo 'fn base::one: proved'; echo 'a note, proved (7 s)' >&2; echo 'rt: base proved (34 s)'
-echo 'rt: words proved (0 s)'; echo 'rt: forms proved (120 s)'; echo 'rt: list_image proved (17 s)'
-build; stamps; echo 'rt: list_image ran, and wrote what its file '"'stdout'"' has (0 s)'; echo 'rt: 4 crates proved'
+echo 'only=0 proved=0' >&2; proves base >&2; echo 'a note, proved' >&2; proves words >&2; proves forms; proves list_image
+build; runs
 END
-    rm -f "$tree/target/stamp/"* "$tree/target/bin/"*
+    rm -f "$tree/crates/list_image/out/"*
 }
 answer() {
     printf '%b' "$1" >"$work/answer"
@@ -90,7 +90,7 @@ is_status() { [ "$status" -eq "$1" ]; }
 is_out() { printf '%b' "$1" | cmp -s - "$work/out"; }
 is_err() { printf '%b' "$1" | cmp -s - "$work/err"; }
 is_silent() { [ ! -s "$work/err" ]; }
-is_run() { [ -f "$work/words" ] && [ "$(cat "$work/words")" = 'check list_image' ] && [ "$(cat "$work/folder")" = "$tree" ]; }
+is_run() { [ -f "$work/words" ] && [ "$(cat "$work/words")" = run ] && [ "$(cat "$work/folder")" = "$tree/crates/list_image" ]; }
 not() { if "$@"; then return 1; fi; }
 has() { grep -qxF -- "$2" "$work/$1"; }
 has_part() { grep -qF -- "$2" "$work/$1"; }
@@ -98,7 +98,7 @@ counts() { [ "$(grep -c -- "$2" "$work/$1")" -eq "$3" ]; }
 
 printf 'image' >"$work/image"
 two='format 2 edition 2 entries 1\n0 513 2 3 6 2\n'
-said="$tree/list: proving and building the program first; it has 4 crates, and all of them take 3 to 4 minutes on a machine with two cores"
+said="$tree/list: proving and building the program first; it has 4 crates, and all of them take many minutes the first time"
 
 # ---- usage: 2, nothing listed, nothing proved
 answer "$two"
@@ -127,67 +127,77 @@ run "$tree/list" 2 2 "$work/image"
 holds 'unchanged: status 0' is_status 0
 holds 'unchanged: the listing byte for byte' is_out "$two"
 holds 'unchanged: nothing is said' is_silent
-holds 'unchanged: rt check list_image in the tree' is_run
+holds 'unchanged: rt run in the folder of the program' is_run
 
 # ---- all to be proved: said before rt is run, a line for each crate, the listing alone on standard output
 fresh
 run "$tree/list" 2 2 "$work/image"
 holds 'fresh: status 0' is_status 0
 holds 'fresh: the listing byte for byte' is_out "$two"
-holds 'fresh: what is said' is_err "$said\nproved 1 of 4: base (34 s)\nproved 2 of 4: words (0 s)\nproved 3 of 4: forms (120 s)\nproved 4 of 4: list_image (17 s)\n"
-holds 'fresh: rt check list_image in the tree' is_run
+holds 'fresh: what is said' is_err "$said\nproved 1 of at most 4: base\nproved 2 of at most 4: words\nproved 3 of at most 4: forms\nproved 4 of at most 4: list_image\n"
+holds 'fresh: rt run in the folder of the program' is_run
 
-# ---- rt finds a crate that has changed: said while it is proved, and crates that have not changed count without a line
+# ---- rt finds a crate that has changed: said while it is proved, and crates that have not changed have no line
 unchanged
 plan <<'END'
-same base; same words; rm target/stamp/forms; sleep 2; cp "$FAKE/err" "$FAKE/meanwhile"
-echo 'rt: forms proved (2 s)'; : >target/stamp/forms; echo 'rt: list_image proved (5 s)'
+echo 'rt: chose --jobs 2 for forms'; sleep 2; cp "$FAKE/err" "$FAKE/meanwhile"
+proves forms; proves list_image; runs
 END
 run "$tree/list" 2 2 "$work/image"
 holds 'changed: status 0' is_status 0
 holds 'changed: said while it is proved' has meanwhile "$said"
-holds 'changed: what is said' is_err "$said\nproved 3 of 4: forms (2 s)\nproved 4 of 4: list_image (5 s)\n"
+holds 'changed: what is said' is_err "$said\nproved 1 of at most 4: forms\nproved 2 of at most 4: list_image\n"
 holds 'changed: the listing' is_out "$two"
 
-# ---- it is said before the first line also where a crate is proved too fast to be seen
+# ---- it is said before the first line also where rt begins with a crate's lines
 unchanged
 plan <<'END'
-same base; echo 'rt: words proved (0 s)'; echo 'rt: forms proved (0 s)'; same list_image
+echo 'crate words: modules loaded=1 checked=0'; echo 'logic=proved functions=0'; echo 'crate forms: modules loaded=1 checked=0'; echo 'logic=proved functions=0'; runs
 END
 run "$tree/list" 2 2 "$work/image"
-holds 'fast: what is said' is_err "$said\nproved 2 of 4: words (0 s)\nproved 3 of 4: forms (0 s)\n"
+holds 'fast: what is said' is_err "$said\nproved 1 of at most 4: words\nproved 2 of at most 4: forms\n"
+
+# ---- rt waits for another copy, or begins with its work: said before it is done
+unchanged
+plan <<'END'
+echo 'rt: base: another copy of the repository is building this library; waiting for it, at most half an hour, to use its work' >&2; sleep 1; cp "$FAKE/err" "$FAKE/meanwhile"
+runs
+END
+run "$tree/list" 2 2 "$work/image"
+holds 'waiting: said meanwhile' has meanwhile "$said"
+holds 'waiting: what is said' is_err "$said\n"
 
 # ---- each line is said when it comes, not at the end
 fresh
 plan <<'END'
-echo 'rt: base proved (1 s)'; sleep 1; cp "$FAKE/err" "$FAKE/meanwhile"; build
+proves base; sleep 1; cp "$FAKE/err" "$FAKE/meanwhile"; build
 END
 run "$tree/list" 2 2 "$work/image"
-holds 'in time: a line is there while the next crate is proved' has meanwhile 'proved 1 of 4: base (1 s)'
+holds 'in time: a line is there while the next crate is proved' has meanwhile 'proved 1 of at most 4: base'
 
 # ---- other lines of rt are no progress
 fresh
 plan <<'END'
-echo 'rt: base proved (1 s)'; echo 'rt: apart proved (1 s)'; echo 'rt: words proved, and its run FAILED (1 s)'; echo 'fn words proved (1 s)'; echo 'rt: words proved (soon)'; build
+proves base; proves apart; echo 'crate words: modules loaded=1 checked=1'; echo 'logic=not-proved'; echo 'logic=proved functions=1'; echo 'rt: words proved'; echo 'fn words: proved'; echo 'crate words proved'; echo 'logic=proved functions=1'; build
 END
 run "$tree/list" 2 2 "$work/image"
 holds 'other lines: one line of progress' counts err '^proved ' 1
 
-# ---- the program was removed, its stamp was not: rt would pass over it
+# ---- the program was removed: rt builds it again
 unchanged
-rm "$tree/target/bin/list_image"
+rm "$tree/crates/list_image/out/list_image"
 plan <<'END'
-[ -f target/stamp/list_image ] && same list_image || { build; : >target/stamp/list_image; echo 'rt: list_image proved (9 s)'; }
+[ -f out/list_image ] && same || { build; proves list_image; }; runs
 END
 run "$tree/list" 2 2 "$work/image"
 holds 'removed program: status 0' is_status 0
-holds 'removed program: it is built again' has_part err 'list_image (9 s)'
+holds 'removed program: it is built again' is_err "$said\nproved 1 of at most 4: list_image\n"
 
 # ---- proving fails: 3, all that rt said, and a sentence
 for ends in 1 2 3; do
     fresh
     plan <<END
-echo 'rt: base proved (1 s)'; printf '%s\\n' 'Proof.antt:7:5: error: \\no % such'; echo 'on the other side' >&2; printf 'rt: words NOT PROVED'; build; exit $ends
+proves base; printf '%s\\n' 'Proof.antt:7:5: error: \\no % such'; echo 'on the other side' >&2; printf 'logic=not-proved'; build; exit $ends
 END
     run "$tree/list" 2 2 "$work/image"
     holds "rt ends with $ends: status 3" is_status 3
@@ -195,21 +205,21 @@ END
     holds "rt ends with $ends: the program is not run" not test -e "$work/input"
     holds "rt ends with $ends: what it said" has err 'Proof.antt:7:5: error: \no % such'
     holds "rt ends with $ends: what it said on standard error" has err 'on the other side'
-    holds "rt ends with $ends: its last line, which is cut short" has_part err 'rt: words NOT PROVED'
+    holds "rt ends with $ends: its last line, which is cut short" has_part err 'logic=not-proved'
     holds "rt ends with $ends: the sentence" has_part err "$tree/list: the program was not proved and built: rt ended with status $ends; what it said stands above"
 done
 fresh
 plan <<'END'
-echo 'rt: 4 crates proved'
+proves list_image; runs
 END
 run "$tree/list" 2 2 "$work/image"
 holds 'rt leaves no program: status 3' is_status 3
-holds 'rt leaves no program: it is said' has err "$tree/list: rt ended with status 0 and left no program at $tree/target/bin/list_image"
+holds 'rt leaves no program: it is said' has err "$tree/list: rt ended with status 0 and left no program at $tree/crates/list_image/out/list_image"
 
 # ---- no kit on the path: 3, also where a program is there
 unchanged
 mkdir "$work/tools"
-for tool in sh awk cat dirname head mkdir mktemp readlink rm sleep tr wc; do ln -s "$(command -v "$tool")" "$work/tools/$tool"; done
+for tool in sh awk cat dirname head mktemp readlink rm tr wc; do ln -s "$(command -v "$tool")" "$work/tools/$tool"; done
 run env PATH="$work/tools" "$tree/list" 2 2 "$work/image"
 holds 'no kit: status 3' is_status 3
 holds 'no kit: it is said' is_err "$tree/list: rt, the command of the Rattle kit, is not on the path; without it the program cannot be proved\n"
@@ -231,6 +241,14 @@ answer "$two" 5
 run "$tree/list" 2 2 "$work/image"
 holds 'a program that ends with 5: its status' is_status 5
 holds 'a program that ends with 5: what it wrote' is_out "$two"
+answer 'format 2' 1
+run "$tree/list" 2 2 "$work/image"
+holds 'a program that could not read or write: status 2' is_status 2
+answer "$two"
+if [ -w /dev/full ]; then
+    run sh -c 'exec "$@" >/dev/full' sh "$tree/list" 2 2 "$work/image"
+    holds 'an output that is full: status 2' is_status 2
+fi
 answer ''
 run "$tree/list" 2 2 "$work/image"
 holds 'a program that writes nothing: status 0' is_status 0
@@ -327,19 +345,19 @@ fi
 
 # ---- the repository's own crates: those that the program needs, each once, and no other
 cp "$here/crates.txt" "$tree/crates.txt"
-rm -f "$tree/target/stamp/"*
 plan <<'END'
-sed -n 's/^\([a-z_0-9]*\):.*/rt: \1 proved (1 s)/p' crates.txt; build
+sed -n 's/^\([a-z_0-9]*\)\( staticlib\)*:.*/\1/p' ../../crates.txt >"$FAKE/names"; while read -r name; do proves "$name"; done <"$FAKE/names"; build
 END
 run "$tree/list" 2 2 "$work/image"
+holds "the repository's crates: boardid is among them" grep -qx boardid "$work/names"
 lines=$(grep -c '^proved ' "$work/err") || :
-last=$(sed -n 's/^proved \([0-9]* of [0-9]*\): .*/\1/p' "$work/err" | tail -n 1)
-holds "the repository's crates: $lines of $lines at the end" test "$last" = "$lines of $lines"
+last=$(sed -n 's/^proved \([0-9]* of at most [0-9]*\): .*/\1/p' "$work/err" | tail -n 1)
+holds "the repository's crates: $lines of $lines at the end" test "$last" = "$lines of at most $lines"
 for name in crc layout frames accept reader list_image; do
-    holds "the repository's crates: $name" counts err "^proved [0-9]* of $lines: $name (1 s)\$" 1
+    holds "the repository's crates: $name" counts err "^proved [0-9]* of at most $lines: $name\$" 1
 done
 for name in writer promises boardid cases; do
-    holds "the repository's crates: not $name" counts err ": $name (" 0
+    holds "the repository's crates: not $name" counts err ": $name\$" 0
 done
 
 # ---- an rt that ends at once: what waits for it ends too, each time

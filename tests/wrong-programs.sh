@@ -11,11 +11,20 @@ only_apply=no
 names=("$@")
 [ $# -gt 0 ] || for folder in tests/wrong-programs/*/; do names+=("$(basename "$folder")"); done
 
+# copy CRATE FOLDER: the files of a crate that a wrong program may change, and that the prover reads
+copy() {
+    local part
+    mkdir -p "$2"
+    for part in src specs proofs; do
+        [ ! -d "crates/$1/$part" ] || cp -R "crates/$1/$part" "$2/$part"
+    done
+}
+
 if [ "$only_apply" = yes ]; then
     applied=0 failed=0
     for name in "${names[@]}"; do
         for edit in "tests/wrong-programs/$name"/*.edit; do
-            cp -R "crates/$name" "$room/copy"
+            copy "$name" "$room/copy"
             if why=$(tests/apply-edit.sh "$edit" "$room/copy"); then
                 applied=$((applied + 1))
             else
@@ -29,9 +38,12 @@ if [ "$only_apply" = yes ]; then
     exit $((failed > 0))
 fi
 
-cp -R crates crates.txt "$room"
-[ ! -d target ] || cp -R target "$room"
-rm -rf "$room"/crates/*/must-fail
+# What the kit keeps in out/ is not copied: in the copy it begins with what it kept of the same crates here.
+cp crates.txt "$room"
+for folder in crates/*/; do
+    name=$(basename "$folder")
+    copy "$name" "$room/crates/$name"
+done
 for name in "${names[@]}"; do
     cp -R "tests/wrong-programs/$name" "$room/crates/$name/must-fail"
 done

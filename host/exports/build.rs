@@ -17,7 +17,7 @@ fn main() {
     println!("cargo:rerun-if-changed={}", archive.display());
     if !archive.is_file() {
         eprintln!("there is no {}", archive.display());
-        eprintln!("run `rt staticlib boardid`, or set BOARDID_LIB to the folder of the archive");
+        eprintln!("run `library/build`, or set BOARDID_LIB to the folder of the archive");
         exit(1);
     }
     println!("cargo:rustc-link-search=native={}", folder.display());

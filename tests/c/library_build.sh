@@ -8,19 +8,20 @@ mkdir -p "$room/tools" "$room/kit" "$room/tree/library"
 tree=$room/tree archive=$room/tree/target/staticlib/libboardid.a stamp=$room/tree/target/staticlib/libboardid.stamp
 
 # A path without the kit: only what the script calls.
-for tool in awk cat cut dirname find grep head mktemp rm sed sh sha256sum sort touch mkdir xargs; do
+for tool in awk cat cp cut dirname find grep head mktemp mv rm sed sh sha256sum sort touch mkdir xargs; do
     ln -s "$(command -v "$tool")" "$room/tools/$tool"
 done
 
 # The kit counts how often it is called, proves as many crates as $room/proves says, and makes an archive of what $room/makes has.
 cat >"$room/kit/rt" <<END
 #!/bin/sh
-echo "\$*" >>"$room/calls"
+echo "\$* in \${PWD##*/tree/}" >>"$room/calls"
 echo "rt: a word of the kit"
 cat "$room/proves"
 [ -e "$room/makes" ] || { echo "rt: it does not hold" >&2; exit 1; }
-mkdir -p target/staticlib
-cat "$room/makes" >target/staticlib/libboardid.a
+mkdir -p out/incremental
+echo "of the kit" >out/incremental/kept
+cat "$room/makes" >out/libboardid.a
 END
 chmod +x "$room/kit/rt"
 cp "$root/library/build" "$tree/library"
@@ -35,7 +36,7 @@ wrong() {
 
 # The sources, which are of five crates that boardid needs and one that it does not.
 sources() {
-    printf '# A note: boardid\ncrc:\nlayout: crc\nparts: layout\nother: parts\nlaws: layout crc\nboardid: parts laws records\nrecords: crc\n' >"$tree/crates.txt"
+    printf '# A note: boardid\ncrc:\nlayout: crc\nparts: layout\nother: parts\nlaws: layout crc\nboardid staticlib: parts laws records\nrecords: crc\n' >"$tree/crates.txt"
     for name in crc layout boardid; do
         mkdir -p "$tree/crates/$name/src" "$tree/crates/$name/specs" "$tree/crates/$name/proofs/deep" "$tree/crates/$name/must-fail"
         for part in src/lib.rt specs/Lib.antt proofs/Lib.antt proofs/deep/Proof.antt must-fail/wrong.edit; do
@@ -73,16 +74,17 @@ says 'LIB=FILE'
 
 # No archive: the kit is called once, and it is said how far it is.
 echo one >"$room/makes"
-printf 'rt: crc proved (3 s)\nrt: layout proved (34 s)\nrt: laws: proved things are said\n' >"$room/proves"
+printf '%s\n' 'only=0 proved=0' 'logic=proved of nothing' 'crate crc: modules loaded=1 checked=2' 'fn crc::one: proved' 'logic=proved functions=1' 'crate layout: modules loaded=1 checked=2' 'axioms std: none' \
+    'logic=proved functions=0' 'crate laws: modules loaded=1 checked=2' 'logic=not-proved' 'logic=proved of nothing' 'rt: laws: proved things are said' >"$room/proves"
 build 0 1 with
-grep -q -x 'staticlib boardid' "$room/calls" || wrong 'the kit is called with other words'
-says 'about seven minutes'
-says 'proved 1 of 5: crc (3 s)'
-says 'proved 2 of 5: layout (34 s)'
+grep -q -x 'lib in crates/boardid' "$room/calls" || wrong 'the kit is called with other words, or elsewhere'
+says 'all of its 6 crates take many minutes the first time'
+says 'proved 1 of at most 6: crc'
+says 'proved 2 of at most 6: layout'
 ! grep -q -e 'proved 3' -e 'a word of the kit' "$room/said" || wrong 'says too much'
 [ "$(cat "$archive")" = one ] || wrong 'another archive'
 
-# Nothing changed: nothing is done, with a kit and without one, also where a file that is no source changed, or a source has another time.
+# Nothing changed: nothing is done, with a kit and without one, also where a file that is no source changed, or a source has another time; nor where what the kit made is gone.
 : >"$room/proves"
 build 0 0 with
 nothing
@@ -91,6 +93,11 @@ nothing
 echo changed >>"$tree/crates/crc/must-fail/wrong.edit"
 touch "$tree/crates/crc/src/lib.rt"
 build 0 0 with
+nothing
+rm -r "$tree/crates/boardid/out"
+build 0 0 with
+nothing
+build 0 0
 nothing
 
 # Each kind of source that changes, is new, is gone or has another name calls the kit; without one it is an error, and the archive stays.
@@ -119,14 +126,15 @@ rm crates/crc/src/more.rt
 mv crates/crc/specs/Lib.antt crates/crc/specs/Other.antt
 END
 
-# The kit fails: its words are shown, the old archive stays, and the next time it is called again.
+# The kit fails: its words are shown, the old archive stays, and the next time it is called again. What it made before is not taken for the new archive.
 echo more >>"$tree/crates/boardid/src/lib.rt"
 rm "$room/makes"
+cp "$archive" "$room/before"
 build 1 1 with
 says 'rt: a word of the kit'
 says 'rt: it does not hold'
 says 'the kit could not make the library'
-[ -e "$archive" ] || wrong 'the old archive is gone'
+cmp -s "$archive" "$room/before" || wrong 'the old archive is gone'
 build 1 1 with
 echo three >"$room/makes"
 build 0 1 with
@@ -136,6 +144,7 @@ build 0 0 with
 rm "$stamp"
 touch -d '1 hour ago' "$tree/crates.txt"
 find "$tree/crates" -type f -exec touch -d '1 hour ago' {} +
+touch "$tree/crates/boardid/out/incremental/kept"
 build 0 0 with
 nothing
 [ -e "$stamp" ] || wrong 'no stamp'

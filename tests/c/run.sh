@@ -425,7 +425,7 @@ no_archive() {
 # A copy of the sources, with a command, a manual page and a completion that are there only in name, and one crate.
 copy_of_sources() {
     mkdir -p "$1/crates/boardid/src" "$1/command" "$1/man" "$1/completions" && cp -r Makefile LICENSE include library examples samples docs "$1" || return 1
-    echo 'boardid:' >"$1/crates.txt"
+    echo 'boardid staticlib:' >"$1/crates.txt"
     echo 'fn boardid_check' >"$1/crates/boardid/src/lib.rt"
     printf '#include <boardid.h>\n#include <jansson.h>\n#include "own.h"\nint main(void) { return json_is_true(json_false()) || !boardid_check_image(2, 0, 0) || own; }\n' >"$1/command/main.c"
     echo 'enum { own = 0 };' >"$1/command/own.h"
@@ -439,7 +439,7 @@ copy_of_sources() {
 make_twice() {
     local copy=$room/copy
     copy_of_sources "$copy" && mkdir -p "$room/kit" || return 1
-    printf '#!/bin/sh\nmkdir -p target/staticlib && cp "%s" target/staticlib/libboardid.a\n' "$lib" >"$room/kit/rt" && chmod +x "$room/kit/rt" || return 1
+    printf '#!/bin/sh\nmkdir -p out && cp "%s" out/libboardid.a\n' "$lib" >"$room/kit/rt" && chmod +x "$room/kit/rt" || return 1
     PATH="$room/kit:$PATH" make_here -C "$copy" all || return 1
     find "$copy/target" -type f -exec touch -r {} {}.time \;
     make_without_kit -C "$copy" all >"$room/second" 2>&1 || return 1

@@ -3,13 +3,14 @@
 
 use blocks::{Block, Vended};
 use layout::{Checked, Entry, Located, Lookup, Made, Part, Place, Reading, Refusal, StringNumber};
+use std::io;
 
-fn say(name: &[u8], is_right: bool) {
-    io::write_all(1, name);
+fn say(rt: &impl Print, name: &[u8], is_right: bool) -> io::Result<()> {
+    rt.write_all(name)?;
     if is_right {
-        io::write_all(1, b": ok\n");
+        rt.write_all(b": ok\n")
     } else {
-        io::write_all(1, b": WRONG\n");
+        rt.write_all(b": WRONG\n")
     }
 }
 
@@ -150,12 +151,8 @@ fn is_full(edition: u32, image: &[u8]) -> bool {
 
 // Copies text to the start of the image.
 fn copy_in(image: &mut [u8; 8192], text: &[u8]) {
-    let mut i = 0;
-    while i < text.len() {
-        if i < 8192 {
-            image[i] = text[i];
-        }
-        i += 1;
+    for (place, byte) in image.iter_mut().zip(text) {
+        *place = *byte;
     }
 }
 
@@ -167,10 +164,11 @@ fn fill_full(image: &mut [u8; 8192]) {
     );
 }
 
-fn run_full(image: &[u8; 8192]) {
-    say(b"full example, edition 2", is_full(2, image));
-    say(b"full example, edition 1", is_full(1, image));
-    say(b"full example, edition 3", is_full(3, image));
+fn run_full(rt: &impl Print, image: &[u8; 8192]) -> io::Result<()> {
+    say(rt, b"full example, edition 2", is_full(2, image))?;
+    say(rt, b"full example, edition 1", is_full(1, image))?;
+    say(rt, b"full example, edition 3", is_full(3, image))?;
+    Ok(())
 }
 
 // 002's encoding example.
@@ -236,11 +234,12 @@ fn has_no_string(image: &[u8], number: usize) -> bool {
 }
 
 // A Tiny image with a string number and a pool of two strings and an unfinished tail.
-fn run_pool(image: &[u8]) {
-    say(b"tiny with a pool", has_count(3, 2, image, 2));
-    say(b"string 0", has_string(image, 0, b"AB\xC3"));
-    say(b"string 1", has_string(image, 1, b"D\xC5"));
-    say(b"string 2, refused", has_no_string(image, 2));
+fn run_pool(rt: &impl Print, image: &[u8]) -> io::Result<()> {
+    say(rt, b"tiny with a pool", has_count(3, 2, image, 2))?;
+    say(rt, b"string 0", has_string(image, 0, b"AB\xC3"))?;
+    say(rt, b"string 1", has_string(image, 1, b"D\xC5"))?;
+    say(rt, b"string 2, refused", has_no_string(image, 2))?;
+    Ok(())
 }
 
 // Whether an image of n bytes was made.
@@ -300,11 +299,16 @@ fn is_name_not_written(fields: &[u8]) -> bool {
     is_unmade(m, 7, 0) & parts::same_bytes(&out, b"\xAA\xAA\xAA\xAA")
 }
 
-fn run_names(image: &[u8], fields: &[u8]) {
-    say(b"lab.rack", has_pair(image, 0, b"lab.rack", b"R2"));
-    say(b"lab.rack edited", is_name_kept(image));
-    say(b"lab.rack written, refused", is_name_not_written(fields));
+fn run_names(rt: &impl Print, image: &[u8], fields: &[u8]) -> io::Result<()> {
+    say(rt, b"lab.rack", has_pair(image, 0, b"lab.rack", b"R2"))?;
+    say(rt, b"lab.rack edited", is_name_kept(image))?;
     say(
+        rt,
+        b"lab.rack written, refused",
+        is_name_not_written(fields),
+    )?;
+    say(
+        rt,
         b"lab.rack twice, refused",
         is_refused(
             2,
@@ -313,11 +317,13 @@ fn run_names(image: &[u8], fields: &[u8]) {
             8,
             13,
         ),
-    );
+    )?;
     say(
+        rt,
         b"vpd with an empty key, refused",
         is_refused(2, 2, b"\x01\x00\x00\x00", 7, 0),
-    );
+    )?;
+    Ok(())
 }
 
 // A switch's image: a name, an address, a number, and two vendor extensions.
@@ -351,21 +357,34 @@ fn is_serial_written(fields: &[u8]) -> bool {
         )
 }
 
-fn run_onie(empty: &[u8], cut: &[u8], switch: &[u8], fields: &[u8]) {
+fn run_onie(
+    rt: &impl Print,
+    empty: &[u8],
+    cut: &[u8],
+    switch: &[u8],
+    fields: &[u8],
+) -> io::Result<()> {
     say(
+        rt,
         b"check of the digits",
         crc::check32(b"123456789") == 0xCBF43926,
-    );
-    say(b"onie without entries", has_count(4, 3, empty, 0));
+    )?;
+    say(rt, b"onie without entries", has_count(4, 3, empty, 0))?;
     say(
+        rt,
         b"onie by edition 2, refused",
         is_refused(4, 2, empty, 16, 0),
-    );
-    say(b"onie by edition 9, refused", is_refused(4, 9, empty, 1, 0));
-    say(b"onie cut, refused", is_refused(4, 3, cut, 5, 9));
-    say(b"switch", is_switch(switch));
-    say(b"switch edited", is_switch_edited(switch));
-    say(b"serial number written", is_serial_written(fields));
+    )?;
+    say(
+        rt,
+        b"onie by edition 9, refused",
+        is_refused(4, 9, empty, 1, 0),
+    )?;
+    say(rt, b"onie cut, refused", is_refused(4, 3, cut, 5, 9))?;
+    say(rt, b"switch", is_switch(switch))?;
+    say(rt, b"switch edited", is_switch_edited(switch))?;
+    say(rt, b"serial number written", is_serial_written(fields))?;
+    Ok(())
 }
 
 // 003's payload, with one byte of the buffer left as it was.
@@ -420,46 +439,64 @@ fn is_vendor_written(pieces: &[u8], count: usize, values: &[u8]) -> bool {
     is_made(m, count) & parts::same_bytes(&out, values)
 }
 
-fn run_amplifiers(one: &[u8], two: &[u8], wrong: &[u8], empty: &[u8]) {
-    say(b"amplifier in one piece", is_amplifier(one));
-    say(b"amplifier in two pieces", is_amplifier(two));
+fn run_amplifiers(
+    rt: &impl Print,
+    one: &[u8],
+    two: &[u8],
+    wrong: &[u8],
+    empty: &[u8],
+) -> io::Result<()> {
+    say(rt, b"amplifier in one piece", is_amplifier(one))?;
+    say(rt, b"amplifier in two pieces", is_amplifier(two))?;
     say(
+        rt,
         b"amplifier by edition 2, refused",
         is_no_amplifier(2, one, 16),
-    );
+    )?;
     say(
+        rt,
         b"amplifier without a payload, refused",
         is_no_amplifier(3, empty, 17),
-    );
+    )?;
     say(
+        rt,
         b"amplifier with a wrong check, refused",
         is_no_amplifier(3, wrong, 19),
-    );
+    )?;
     say(
+        rt,
         b"amplifier in two bytes, refused",
         is_no_amplifier(3, two, 12),
-    );
+    )?;
     say(
+        rt,
         b"payload written in one piece",
         is_vendor_written(
             b"\x18\x00\x00\x00",
             29,
             b"\x00\x00\x1Fy\x00\x08DQ000MPW\x00\x09\x00\x00\x00\x00\x00\x00\x00\x00\x00\x02`QK\xAA\xAA\xAA\xAA\xAA\xAA",
         ),
-    );
+    )?;
     say(
+        rt,
         b"payload written in two pieces",
         is_vendor_written(
             b"\x17\x00\x00\x00\x01\x00\x00\x00",
             34,
             b"\x00\x00\x1Fy\x00\x08DQ000MPW\x00\x09\x00\x00\x00\x00\x00\x00\x00\x00\x00\x02`Q\x00\x00\x1Fy\x00K\xAA",
         ),
-    );
+    )?;
+    Ok(())
 }
 
-fn run_edits(image: &[u8]) {
-    say(b"sku edited in ten bytes", is_edited(image));
-    say(b"sku edited in seven bytes, refused", is_not_edited(image));
+fn run_edits(rt: &impl Print, image: &[u8]) -> io::Result<()> {
+    say(rt, b"sku edited in ten bytes", is_edited(image))?;
+    say(
+        rt,
+        b"sku edited in seven bytes, refused",
+        is_not_edited(image),
+    )?;
+    Ok(())
 }
 
 // An image with an entry for a field, in 18 bytes of output.
@@ -491,8 +528,9 @@ fn is_not_removed(format: u32, image: &[u8], i: usize, number: u32, place: usize
 }
 
 // Additions to the SKU image: a field has its key at 0 and its value at 3 of the values.
-fn run_additions(image: &[u8], field: &[u8], cut: &[u8]) {
+fn run_additions(rt: &impl Print, image: &[u8], field: &[u8], cut: &[u8]) -> io::Result<()> {
     say(
+        rt,
         b"rev added",
         is_added(
             2,
@@ -502,28 +540,34 @@ fn run_additions(image: &[u8], field: &[u8], cut: &[u8]) {
             17,
             b"\x01\x03SKU\x02A7\x01\x03REV\x02B2\x00\xFF",
         ),
-    );
+    )?;
     say(
+        rt,
         b"second sku added, refused",
         is_not_added(2, image, field, b"SKUB2", 8),
-    );
+    )?;
     say(
+        rt,
         b"r.v added, refused",
         is_not_added(2, image, field, b"R.VB2", 7),
-    );
+    )?;
     say(
+        rt,
         b"rev added in four bytes, refused",
         is_not_added(2, image, field, b"REVB2", 12),
-    );
+    )?;
     say(
+        rt,
         b"field of 19 bytes added, refused",
         is_not_added(2, image, cut, b"REVB2", 13),
-    );
+    )?;
+    Ok(())
 }
 
 // Additions to the image with a pool, and removals from it.
-fn run_pool_changes(image: &[u8], field: &[u8]) {
+fn run_pool_changes(rt: &impl Print, image: &[u8], field: &[u8]) -> io::Result<()> {
     say(
+        rt,
         b"tests added before the pool",
         is_added(
             3,
@@ -533,30 +577,37 @@ fn run_pool_changes(image: &[u8], field: &[u8]) {
             16,
             b"\x56\x02\x10\x10\x00\x11\x01\x01\x06AB\xC3D\xC5F\xE7\xFF\xFF",
         ),
-    );
+    )?;
     say(
+        rt,
         b"pool removed",
         is_removed(3, image, 1, 6, b"\x56\x02\x06\x10\x00\xB7\xFF"),
-    );
+    )?;
+    Ok(())
 }
 
-fn run_removals(image: &[u8], full: &[u8; 8192]) {
+fn run_removals(rt: &impl Print, image: &[u8], full: &[u8; 8192]) -> io::Result<()> {
     say(
+        rt,
         b"sku removed",
         is_removed(2, image, 0, 1, b"\x00\xFF\xFF\xFF\xFF\xFF\xFF"),
-    );
+    )?;
     say(
+        rt,
         b"entry 1 of one removed, refused",
         is_not_removed(2, image, 1, 13, 0),
-    );
+    )?;
     say(
+        rt,
         b"required field removed, refused",
         is_not_removed(1, full, 0, 11, 0),
-    );
+    )?;
     say(
+        rt,
         b"field without a name removed, refused",
         is_not_removed(1, full, 16, 14, 166),
-    );
+    )?;
+    Ok(())
 }
 
 // A file with one board more, into an output of 48 bytes: the new file, and the two bytes after it as they were.
@@ -622,38 +673,62 @@ fn is_board_nowhere(file: &[u8], board: u32, number: u32, place: usize) -> bool 
     }
 }
 
-fn run_room_changes(none: &[u8], five: &[u8], nine: &[u8], both: &[u8]) {
-    say(b"board 5 added", is_board_added(none, 5, 2, b"\x00", five));
+fn run_room_changes(
+    rt: &impl Print,
+    none: &[u8],
+    five: &[u8],
+    nine: &[u8],
+    both: &[u8],
+) -> io::Result<()> {
     say(
+        rt,
+        b"board 5 added",
+        is_board_added(none, 5, 2, b"\x00", five),
+    )?;
+    say(
+        rt,
         b"board 9 added after it",
         is_board_added(five, 9, 3, b"\x56\x02\x04\x6F", both),
-    );
+    )?;
     say(
+        rt,
         b"board 5 added before board 9",
         is_board_added(nine, 5, 2, b"\x00", both),
-    );
+    )?;
     say(
+        rt,
         b"board 5 replaced by itself",
         is_board_replaced(both, 5, 2, b"\x00", both),
-    );
-    say(b"board 9 removed", is_board_removed(both, 9, five));
-    say(b"board 5 removed", is_board_removed(both, 5, nine));
-    say(b"last board removed", is_board_removed(five, 5, none));
-    say(b"board 5 fetched", is_board_at(both, 5, 24, 1));
-    say(b"board 9 fetched", is_board_at(both, 9, 25, 4));
+    )?;
+    say(rt, b"board 9 removed", is_board_removed(both, 9, five))?;
+    say(rt, b"board 5 removed", is_board_removed(both, 5, nine))?;
+    say(rt, b"last board removed", is_board_removed(five, 5, none))?;
+    say(rt, b"board 5 fetched", is_board_at(both, 5, 24, 1))?;
+    say(rt, b"board 9 fetched", is_board_at(both, 9, 25, 4))?;
+    Ok(())
 }
 
-fn run_room_refusals(none: &[u8], five: &[u8], both: &[u8], wrong: &[u8], falling: &[u8]) {
+fn run_room_refusals(
+    rt: &impl Print,
+    none: &[u8],
+    five: &[u8],
+    both: &[u8],
+    wrong: &[u8],
+    falling: &[u8],
+) -> io::Result<()> {
     let tiny = b"\x56\x02\x04\x6F";
     say(
+        rt,
         b"room file by edition 9, refused",
         is_board_not_added(2, 9, five, 5, tiny, 1, 0),
-    );
+    )?;
     say(
+        rt,
         b"room file of form 2, refused",
         is_board_not_added(2, 4, five, 5, tiny, 21, 0),
-    );
+    )?;
     say(
+        rt,
         b"room file cut short, refused",
         is_board_nowhere(
             b"\x52\x4D\x01\x00\x00\x01\x00\x00\x00\x00\x00\x05\x02\x00\x00\x01",
@@ -661,103 +736,137 @@ fn run_room_refusals(none: &[u8], five: &[u8], both: &[u8], wrong: &[u8], fallin
             21,
             0,
         ),
-    );
+    )?;
     say(
+        rt,
         b"room file with falling numbers, refused",
         is_board_nowhere(falling, 5, 21, 0),
-    );
-    say(b"no such board fetched", is_board_nowhere(both, 7, 22, 0));
+    )?;
     say(
+        rt,
+        b"no such board fetched",
+        is_board_nowhere(both, 7, 22, 0),
+    )?;
+    say(
+        rt,
         b"no such board replaced",
         is_board_not_replaced(both, 7, 22),
-    );
+    )?;
     say(
+        rt,
         b"board there already",
         is_board_not_added(1, 4, both, 5, b"\x00", 23, 0),
-    );
+    )?;
     say(
+        rt,
         b"body of no format, refused",
         is_board_nowhere(wrong, 5, 16, 16),
-    );
+    )?;
     say(
+        rt,
         b"new body with a wrong check, refused",
         is_board_not_added(1, 4, none, 9, b"\x56\x02\x04\x6E", 10, 3),
-    );
+    )?;
     say(
+        rt,
         b"board added in 28 bytes, refused",
         is_board_not_added(1, 4, five, 9, tiny, 12, 0),
-    );
+    )?;
+    Ok(())
 }
 
-fn run_writes(fields: &[u8]) {
-    say(b"sku written", is_written(fields));
-    say(b"value after the values, refused", is_not_written(fields));
-}
-
-fn run_ends() {
-    say(b"vpd of no bytes", is_empty_refused(2, 2, b"\x00", 5, 0));
-    say(b"vpd of 00", has_count(2, 2, b"\x00", 0));
-    say(b"vpd of FF", has_count(2, 2, b"\xFF", 0));
-}
-
-fn run_pairs() {
+fn run_writes(rt: &impl Print, fields: &[u8]) -> io::Result<()> {
+    say(rt, b"sku written", is_written(fields))?;
     say(
+        rt,
+        b"value after the values, refused",
+        is_not_written(fields),
+    )?;
+    Ok(())
+}
+
+fn run_ends(rt: &impl Print) -> io::Result<()> {
+    say(
+        rt,
+        b"vpd of no bytes",
+        is_empty_refused(2, 2, b"\x00", 5, 0),
+    )?;
+    say(rt, b"vpd of 00", has_count(2, 2, b"\x00", 0))?;
+    say(rt, b"vpd of FF", has_count(2, 2, b"\xFF", 0))?;
+    Ok(())
+}
+
+fn run_pairs(rt: &impl Print) -> io::Result<()> {
+    say(
+        rt,
         b"encoding example",
         is_encoding(
             b"\x01\x04UUID\x100123456789ABCDEF\x01\x073G_IMEI\x0EAABBBBBB-CC-DD\x01\x0Cethernet_mac\x06\x2A\x02\x03\xB3\xD5\x7C\x00",
         ),
-    );
-    say(b"sku", is_sku(b"\x01\x03SKU\x02A7\x00"));
-    say(b"sku, listed", is_listed(b"\x01\x03SKU\x02A7\x00"));
+    )?;
+    say(rt, b"sku", is_sku(b"\x01\x03SKU\x02A7\x00"))?;
+    say(rt, b"sku, listed", is_listed(b"\x01\x03SKU\x02A7\x00"))?;
+    Ok(())
 }
 
-fn main() {
-    say(b"check of 256 A", check_of_many());
-    run_ends();
+fn main(rt: HostRuntime) -> io::Result<()> {
+    say(&rt, b"check of 256 A", check_of_many())?;
+    run_ends(&rt)?;
     let mut image = [0xFFu8; 8192];
     fill_full(&mut image);
-    run_full(&image);
-    run_pairs();
-    run_edits(b"\x01\x03SKU\x02A7\x00");
+    run_full(&rt, &image)?;
+    run_pairs(&rt)?;
+    run_edits(&rt, b"\x01\x03SKU\x02A7\x00")?;
     run_additions(
+        &rt,
         b"\x01\x03SKU\x02A7\x00",
         b"\x01\x00\x00\x00\x00\x00\x00\x00\x03\x00\x00\x00\x03\x00\x00\x00\x02\x00\x00\x00",
         b"\x01\x00\x00\x00\x00\x00\x00\x00\x03\x00\x00\x00\x03\x00\x00\x00\x02\x00\x00",
-    );
-    run_removals(b"\x01\x03SKU\x02A7\x00", &image);
-    run_writes(b"\x01\x00\x00\x00\x00\x00\x00\x00\x03\x00\x00\x00\x03\x00\x00\x00\x02\x00\x00\x00");
+    )?;
+    run_removals(&rt, b"\x01\x03SKU\x02A7\x00", &image)?;
+    run_writes(
+        &rt,
+        b"\x01\x00\x00\x00\x00\x00\x00\x00\x03\x00\x00\x00\x03\x00\x00\x00\x02\x00\x00\x00",
+    )?;
     run_names(
+        &rt,
         b"\x01\x08lab.rack\x02R2\x00",
         b"\x01\x00\x00\x00\x00\x00\x00\x00\x08\x00\x00\x00\x08\x00\x00\x00\x02\x00\x00\x00",
-    );
+    )?;
     run_onie(
+        &rt,
         b"TlvInfo\x00\x01\x00\x06\xFE\x04\xD4C\x1C\x18",
         b"TlvInfo\x00\x01\x00\x06\xFE\x04\xD4C\x1C",
         b"TlvInfo\x00\x01\x00%!\x03SW1$\x06\x00\x11\x223DU*\x02\x00\x08\xFD\x05\x00\x00\x1Fy\x00\xFD\x05\x00\x00\x1Fy\x01\xFE\x04cm\x83\xB7",
         b"\x23\x00\x00\x00\x00\x00\x00\x00\x00\x00\x00\x00\x00\x00\x00\x00\x02\x00\x00\x00",
-    );
+    )?;
     run_amplifiers(
+        &rt,
         b"TlvInfo\x00\x01\x00%\xFD\x1D\x00\x00\x1Fy\x00\x08DQ000MPW\x00\x09\x00\x00\x00\x00\x00\x00\x00\x00\x00\x02`QK\xFE\x04\xC4\xCA\xCB\xB7",
         b"TlvInfo\x00\x01\x00,\xFD\x1C\x00\x00\x1Fy\x00\x08DQ000MPW\x00\x09\x00\x00\x00\x00\x00\x00\x00\x00\x00\x02`Q\xFD\x06\x00\x00\x1Fy\x00K\xFE\x04\x0F\xAE\x02\xF5",
         b"TlvInfo\x00\x01\x00%\xFD\x1D\x00\x00\x1Fy\x00\x08DQ000MPW\x00\x09\x00\x00\x00\x00\x00\x00\x00\x00\x00\x02`QL\xFE\x04\xC1\x85\xDD2",
         b"TlvInfo\x00\x01\x00\x06\xFE\x04\xD4C\x1C\x18",
-    );
-    run_pool(b"\x56\x02\x0E\x10\x00\x01\x06AB\xC3D\xC5F\x2F");
+    )?;
+    run_pool(&rt, b"\x56\x02\x0E\x10\x00\x01\x06AB\xC3D\xC5F\x2F")?;
     run_pool_changes(
+        &rt,
         b"\x56\x02\x0E\x10\x00\x01\x06AB\xC3D\xC5F\x2F",
         b"\x11\x00\x00\x00\x00\x00\x00\x00\x00\x00\x00\x00\x00\x00\x00\x00\x01\x00\x00\x00",
-    );
+    )?;
     run_room_changes(
+        &rt,
         b"\x52\x4D\x01\x00\x00\x00\x00\x00",
         b"\x52\x4D\x01\x00\x00\x01\x00\x00\x00\x00\x00\x05\x02\x00\x00\x01\x00",
         b"\x52\x4D\x01\x00\x00\x01\x00\x00\x00\x00\x00\x09\x03\x00\x00\x04\x56\x02\x04\x6F",
         b"\x52\x4D\x01\x00\x00\x02\x00\x00\x00\x00\x00\x05\x02\x00\x00\x01\x00\x00\x00\x09\x03\x00\x00\x04\x00\x56\x02\x04\x6F",
-    );
+    )?;
     run_room_refusals(
+        &rt,
         b"\x52\x4D\x01\x00\x00\x00\x00\x00",
         b"\x52\x4D\x01\x00\x00\x01\x00\x00\x00\x00\x00\x05\x02\x00\x00\x01\x00",
         b"\x52\x4D\x01\x00\x00\x02\x00\x00\x00\x00\x00\x05\x02\x00\x00\x01\x00\x00\x00\x09\x03\x00\x00\x04\x00\x56\x02\x04\x6F",
         b"\x52\x4D\x01\x00\x00\x01\x00\x00\x00\x00\x00\x05\x09\x00\x00\x01\x00",
         b"\x52\x4D\x01\x00\x00\x02\x00\x00\x00\x00\x00\x09\x02\x00\x00\x01\x00\x00\x00\x05\x02\x00\x00\x01\x00\x00",
-    );
+    )?;
+    Ok(())
 }
