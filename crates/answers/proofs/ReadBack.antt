@@ -11,7 +11,6 @@ use Rattle.layout.specs.declared.Entry.{Entry}
 use Rattle.layout.specs.declared.Reading.TheVariants.{Plain}
 use Rattle.layout.specs.Bytes.{part, place, part_at}
 use Rattle.layout.specs.Walk.{Content}
-use Rattle.layout.specs.Read.{accepted}
 use Rattle.layout.specs.Calls.{Told, entries_in}
 use Rattle.layout.specs.Write.{word}
 use Rattle.laws.specs.Contents.{said}

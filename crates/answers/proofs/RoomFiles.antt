@@ -8,7 +8,7 @@ use native.Mathlib.Omega.{arith}
 use Rattle.layout.specs.declared.Part.{Part}
 use Rattle.layout.specs.declared.Located.{Located}
 use Rattle.layout.specs.declared.Located.TheVariants.{At, Nowhere}
-use Rattle.layout.specs.Bytes.{between, all, part}
+use Rattle.layout.specs.Bytes.{between, all}
 use Rattle.layout.specs.Calls.{Told, told, told_located}
 use Rattle.records.specs.Packed.{packed}
 use Rattle.records.specs.Exports.{Given, room_add_call, room_replace_call, room_fetch_call}

@@ -11,7 +11,6 @@ use borrow.Author.Tests.{le-leb, lt-leb}
 use Rattle.layout.specs.declared.Format.{Format}
 use Rattle.layout.specs.declared.Chosen.{Chosen}
 use Rattle.layout.specs.declared.Chosen.TheVariants.{Known, Unknown}
-use Rattle.layout.specs.declared.Refusal.{Refusal}
 use Rattle.layout.specs.Bytes.{if, refusal}
 use Rattle.layout.specs.Editions.{chosen}
 use Rattle.layout.specs.Walk.{Content, content}
@@ -20,8 +19,7 @@ use Rattle.output.specs.Placing.{copied}
 use Rattle.blocks.specs.declared.Block.{Block}
 use Rattle.blocks.specs.declared.Said.{Said}
 use Rattle.blocks.specs.declared.Said.TheVariants.{Says, Wrong}
-use Rattle.blocks.specs.declared.Vended.{Vended}
-use Rattle.blocks.specs.declared.Vended.TheVariants.{Tells, Unread}
+use Rattle.blocks.specs.declared.Vended.TheVariants.{Tells}
 use Rattle.blocks.specs.Payload.{matching, joined, payload_says}
 use Rattle.blocks.specs.Vendor.{ask_chosen, asked, untaken, taking, take_matching, take_read, read_vendor}
 use Rattle.blocks.proofs.Asking.{read-unasked, read_asked}

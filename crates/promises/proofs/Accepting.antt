@@ -12,7 +12,6 @@ use Rattle.layout.specs.declared.Format.{Format}
 use Rattle.layout.specs.declared.Entry.{Entry}
 use Rattle.layout.specs.Editions.{shape}
 use Rattle.layout.specs.Walk.{Raw, Content, content, flat}
-use Rattle.layout.specs.Read.{accepted}
 use Rattle.layout.specs.Calls.{entries_of, check_image, list_entries}
 use Rattle.laws.specs.Contents.{said}
 use Rattle.laws.proofs.Records.{records-said, entries-count}

@@ -1,6 +1,6 @@
 -- The pieces of a payload, one after another along a pass over an image.
 -- Assumes nothing.
-use Prim.Native.Nat.{ℕ, ◌+◌, ◌-◌, ◌≤◌, ◌<◌}
+use Prim.Native.Nat.{ℕ, ◌+◌, ◌-◌, ◌≤◌}
 use mathlib.Core.Path.{◌≡◌, refl, ap, sym, ◌∙◌}
 use mathlib.Core.List.{List, [], ◌∷◌, ◌++◌, map, append_assoc, append-nil}
 use mathlib.Core.Bool.{Bool, true, false, ◌||◌}
@@ -24,7 +24,6 @@ use Rattle.output.proofs.Overlay.{length_over, over-nil, over-over, copied-over}
 use Rattle.reader.proofs.Lying.{raw_at, value-at, framed-lies}
 use Rattle.reader.proofs.Finding.{onward-raw}
 use Rattle.blocks.specs.Payload.{matches, matching, joined}
-use Rattle.vendor.specs.declared.Joined.{Joined}
 use Rattle.vendor.specs.Pieces.{is_there, joined_by}
 
 -- ---- matching entries

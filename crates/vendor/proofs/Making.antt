@@ -1,7 +1,7 @@
 -- A payload that is made, its values, and a write by what is asked and counted.
 -- Assumes nothing.
 use Prim.Native.Nat.{ℕ, ◌+◌, ◌*◌, ◌≤◌, ◌<◌}
-use mathlib.Core.Path.{◌≡◌, refl, ap, sym, ◌∙◌}
+use mathlib.Core.Path.{◌≡◌, refl, sym, ◌∙◌}
 use mathlib.Core.List.{List}
 use mathlib.Core.Bool.{Bool, true, false, ◌&&◌}
 use native.Mathlib.Omega.{arith}
@@ -10,11 +10,10 @@ use lib.Dec.{leb, eqb}
 use borrow.Author.Tests.{le-leb, lt-leb, eqb-true}
 use Rattle.layout.specs.declared.Format.{Format}
 use Rattle.layout.specs.declared.Chosen.TheVariants.{Known}
-use Rattle.layout.specs.declared.Made.{Made}
 use Rattle.layout.specs.declared.Made.TheVariants.{Wrote}
 use Rattle.layout.specs.Bytes.{if, all, part, refusal}
 use Rattle.layout.specs.Read.{limit}
-use Rattle.layout.specs.Write.{Outcome, refuse, put_bytes}
+use Rattle.layout.specs.Write.{refuse, put_bytes}
 use Rattle.layout.proofs.Choices.{both}
 use Rattle.output.specs.Placing.{copied}
 use Rattle.output.proofs.Overlay.{copied-front}

@@ -13,7 +13,7 @@ use Rattle.layout.specs.declared.Opened.TheVariants.{Room as Opens}
 use Rattle.layout.specs.declared.Refusal.{Refusal}
 use Rattle.layout.specs.Bytes.{part, refusal}
 use Rattle.layout.specs.Onie.{onie}
-use Rattle.layout.specs.Editions.{shape, chosen}
+use Rattle.layout.specs.Editions.{shape}
 use Rattle.layout.specs.Walk.{Content, content, done}
 use Rattle.layout.specs.Read.{Read, read_image}
 use Rattle.laws.specs.Passes.{walked, IsDone, raws_in}

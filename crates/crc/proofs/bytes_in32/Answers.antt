@@ -38,10 +38,10 @@ byte_in32-r-requires c = c.requires.3
 
 pub loop-i-2-preserved : goal.loop-i-2-preserved
 loop-i-2-preserved c = let inv = c.loop-i-2.invariant in (
-      search rules,
-      search rules,
-      turn 32 polynomial32 _ _ _ _ inv.2 _ (rw length-map (search rules)) (rw mirror-at c.byte_in32-r.ensures),
-    )
+  search rules,
+  search rules,
+  turn 32 polynomial32 _ _ _ _ inv.2 _ (rw length-map (search rules)) (rw mirror-at c.byte_in32-r.ensures),
+)
 
 pub returns : goal.returns
 returns c = done 32 polynomial32 _ _ _ _ c.loop-i-2.invariant.2 (rw length-map (search rules))

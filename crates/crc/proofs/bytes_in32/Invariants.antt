@@ -1,7 +1,7 @@
 use mathlib.Core.List.{List, map}
 use Prim.Native.Nat.{ℕ, ◌-◌, ◌^◌, ◌≤◌, ◌<◌}
 use lib.ListN.{length}
-use Rattle.crc.specs.Crc.{mirror, mirrored, check_of, polynomial32}
+use Rattle.crc.specs.Crc.{mirror, check_of, polynomial32}
 use Rattle.crc.proofs.Loop.{Running}
 use Rattle.crc.proofs.bytes_in32.Given as goal
 

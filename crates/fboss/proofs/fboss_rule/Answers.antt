@@ -1,6 +1,5 @@
 -- `fboss::fboss_rule` meets its contract: a rule for each range of codes, where the rule computes at each code.
 -- Assumes nothing.
-use mathlib.Core.Logic.{⊎_elim}
 use native.Mathlib.Omega.{arith}
 use Rattle.layout.specs.Bytes.{one_of}
 use Rattle.layout.specs.Fboss.{fboss_rule}
@@ -53,7 +52,7 @@ pub returns-in-1 : goal.returns-in-1
 unfolding fboss_rule one_of
 returns-in-1 c = let a = c.args in
     elim c.in-1-1.branch [
-      then-code-lt3 w ↦ among _ a.code a.v.now 1 2 (omega arith) (omega arith) (search)
+      | then-code-lt3 w ↦ among _ a.code a.v.now 1 2 (omega arith) (omega arith) (search)
       | else-code-lt3+else-code-lt6+then-code-lt8 w ↦ among _ a.code a.v.now 6 2 (omega arith) (omega arith) (search)
       | else-code-lt3+else-code-lt6+else-code-lt8+else-code-lt11+then-code-lt17 w ↦ among _ a.code a.v.now 11 6 (omega arith) (omega arith) (search, (search, (λ e. absurd (omega arith), search)))
     ]

@@ -1,6 +1,6 @@
 -- `listing::list_entries` meets its contract: each turn fills the record at i with the entry that the cursor shows, and the cursor goes on.
 -- Assumes nothing.
-use Rattle.std.proofs.Common.{◌≡◌, ℕ, suc, ◌+◌, ◌<◌, ◌≤◌, List, length, slice_set, refl, sym, ap, ap₂, ◌∙◌, arith, add-one}
+use Rattle.std.proofs.Common.{◌≡◌, ℕ, ◌+◌, ◌<◌, ◌≤◌, List, length, slice_set, refl, sym, ap, ap₂, ◌∙◌, arith, add-one}
 use Rattle.layout.specs.declared.Entry.{Entry}
 use Rattle.accept.specs.declared.Taken.{Taken}
 use Rattle.accept.specs.Taken.{taken}
@@ -50,10 +50,9 @@ returns c =
     let l = c.loop-i in
     let all = lists-all a.format a.edition a.image.now a.records.now in
     let over : l.i ≡ c.fit_of-n.result = omega arith in
-    let shown : ℕ → Entry = shown_by a.format a.edition a.image.now in
-    (
+    let shown : ℕ → Entry = shown_by a.format a.edition a.image.now in (
       c.answer_of.ensures ∙ ap (λ (t : Taken). answering t (length a.records.now)) c.take-t.ensures ∙ all.answers,
       l.invariant.records
-      ∙ ap (λ (k : ℕ). filled shown k a.records.now) (over ∙ c.fit_of-n.ensures ∙ ap (λ (t : Taken). fitting t (length a.records.now)) c.take-t.ensures)
-      ∙ all.fills,
+          ∙ ap (λ (k : ℕ). filled shown k a.records.now) (over ∙ c.fit_of-n.ensures ∙ ap (λ (t : Taken). fitting t (length a.records.now)) c.take-t.ensures)
+          ∙ all.fills,
     )

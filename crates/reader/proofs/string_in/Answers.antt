@@ -3,7 +3,6 @@
 -- Assumes nothing.
 use Prim.Native.Nat.{ℕ, ◌≤◌, ◌<◌}
 use mathlib.Core.Path.{ap, sym, ◌∙◌}
-use mathlib.Core.Logic.{⊎_elim}
 use native.Mathlib.Omega.{arith}
 use native.Mathlib.Nat.{add-zero}
 use lib.ListN.{get_or}
@@ -28,14 +27,14 @@ loop-i-preserved c = let a = c.args in
     let s = a.pool.now in
     let l = c.loop-i in
     elim c.if-pool-i-ge128.branch [
-    then-pool-i-ge128+else-skip-eq0 w ↦
-    let high : 128 ≤ get_or s l.i 0 = w.if-pool-i-ge128.true in
-    let same = l.invariant.2 ∙ string-passes s a.place.0 l.first l.i l.skip l.invariant.0 c.loop-i-test.true high (omega (arith, w.if-skip-eq0.false)) in
-    (omega (arith, w.first-is), omega arith, rw (w.skip-is, w.first-is) same)
-    | else-pool-i-ge128 w ↦
-    let low : get_or s l.i 0 < 128 = w.if-pool-i-ge128.false in
-    let same = l.invariant.2 ∙ string-goes s a.place.0 l.first l.i l.skip l.invariant.0 c.loop-i-test.true low in
-    (omega (arith, w.first-is), omega arith, rw (w.skip-is, w.first-is) same)
+      | then-pool-i-ge128+else-skip-eq0 w ↦
+          let high : 128 ≤ get_or s l.i 0 = w.if-pool-i-ge128.true in
+          let same = l.invariant.2 ∙ string-passes s a.place.0 l.first l.i l.skip l.invariant.0 c.loop-i-test.true high (omega (arith, w.if-skip-eq0.false)) in
+          (omega (arith, w.first-is), omega arith, rw (w.skip-is, w.first-is) same)
+      | else-pool-i-ge128 w ↦
+          let low : get_or s l.i 0 < 128 = w.if-pool-i-ge128.false in
+          let same = l.invariant.2 ∙ string-goes s a.place.0 l.first l.i l.skip l.invariant.0 c.loop-i-test.true low in
+          (omega (arith, w.first-is), omega arith, rw (w.skip-is, w.first-is) same)
     ]
 
 pub returns : goal.returns
