@@ -4,7 +4,7 @@
 # be a definition. NAME.proof beside it proves `pub false : STATEMENT → ⊥` over the edited definitions, STATEMENT being one that crates/promises proves of the
 # right ones, or crates/room_promises of those of rooms: so it is a promise that refuses the edit, and not a proof that no longer fits. It may use
 # Instances.proof, or RoomInstances.proof; the copy has the definitions and the statements, and no other proof and no worked case. RT_JOBS edits are tried at a
-# time, 2 where it is not set.
+# time, as many as there are processors where it is not set.
 set -euo pipefail
 cd "$(dirname "$0")/.."
 room=$(mktemp -d)
@@ -94,7 +94,7 @@ base definitions crc layout blocks laws promises
 [ -z "$rooms" ] || { cp -R "$room/definitions" "$room/rooms" && base rooms rooms room_promises; }
 
 for edit in $all; do
-    while [ "$(jobs -rp | wc -l)" -ge "${RT_JOBS:-2}" ]; do wait -n || true; done
+    while [ "$(jobs -rp | wc -l)" -ge "${RT_JOBS:-$(nproc)}" ]; do wait -n || true; done
     try "$edit" &
 done
 wait
