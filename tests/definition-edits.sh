@@ -4,7 +4,7 @@
 # be a definition. NAME.proof beside it proves `pub false : STATEMENT → ⊥` over the edited definitions, STATEMENT being one that crates/promises proves of the
 # right ones, or crates/room_promises of those of rooms: so it is a promise that refuses the edit, and not a proof that no longer fits. It may use
 # Instances.proof, or RoomInstances.proof; the copy has the definitions and the statements, and no other proof and no worked case. RT_JOBS edits are tried at a
-# time, 2 where it is not set. `rt all check` says in its last lines of each crate how it went, as 'NAME: ok'.
+# time, as many as there are processors where it is not set.
 set -euo pipefail
 cd "$(dirname "$0")/.."
 room=$(mktemp -d)
@@ -47,10 +47,8 @@ statement() {
     echo "$said"
 }
 
-# accepted LOG EDIT: the definitions were accepted, by this log: those of layout and blocks, and those of rooms where it edits them
-accepted() {
-    grep -qx 'layout: ok' "$1" && grep -qx 'blocks: ok' "$1" && { ! ofRooms "$2" || grep -qx 'rooms: ok' "$1"; }
-}
+# accepted LOG CRATE: the definitions were accepted, by this log of a check of the crate: rt has a line 'crate NAME: ..' of a crate that it looked at, and looks at none above one that is not proved
+accepted() { grep -q "^crate $2: " "$1"; }
 
 # tries one edit
 try() {
@@ -72,9 +70,9 @@ try() {
     bad=$(tests/apply-edit.sh "$edit" "$copy") || bad=${bad:-'it does not apply'}
     if [ -n "$bad" ]; then
         verdict "$label" failed "BAD EDIT: $bad"
-    elif (cd "$copy" && rt all check --jobs 1 >"$room/$label.log" 2>&1); then
+    elif (cd "$copy/crates/$crate" && rt check --jobs 1 >"$room/$label.log" 2>&1); then
         verdict "$label" shown "$said is false of it"
-    elif ! accepted "$room/$label.log" "$edit"; then
+    elif ! accepted "$room/$label.log" "$crate"; then
         verdict "$label" failed 'BAD EDIT: the definitions are no longer accepted'
     else
         verdict "$label" failed "$said is NOT SHOWN to be false of it: $(grep -m 1 -oE '(specs|proofs|src)/[^ ]*: error.*' "$room/$label.log" | cut -c 1-300)"
@@ -96,7 +94,7 @@ base definitions crc layout blocks laws promises
 [ -z "$rooms" ] || { cp -R "$room/definitions" "$room/rooms" && base rooms rooms room_promises; }
 
 for edit in $all; do
-    while [ "$(jobs -rp | wc -l)" -ge "${RT_JOBS:-2}" ]; do wait -n || true; done
+    while [ "$(jobs -rp | wc -l)" -ge "${RT_JOBS:-$(nproc)}" ]; do wait -n || true; done
     try "$edit" &
 done
 wait

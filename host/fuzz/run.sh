@@ -9,7 +9,7 @@ set -euo pipefail
 [ -z "${BOARDID_LIB:-}" ] || { BOARDID_LIB=$(realpath "$BOARDID_LIB") && export BOARDID_LIB; }
 cd "$(dirname "$0")"
 lib=${BOARDID_LIB:-../../target/staticlib}/libboardid.a
-[ -f "$lib" ] || { echo "fuzz: there is no $lib: run rt staticlib boardid"; exit 1; }
+[ -f "$lib" ] || { echo "fuzz: there is no $lib: run library/build"; exit 1; }
 seconds=${1:-60} call=${2:-all}
 shift $(($# < 2 ? $# : 2))
 

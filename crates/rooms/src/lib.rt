@@ -1,4 +1,4 @@
-// No code but the type of an answer: specs/ has the machine-room file and what each call on it answers, and proofs/ how a file is read and searched.
+// No code but the type of an answer: specs/ has the machine-room file and what each call on it answers, and proofs/ how a file is read. `Counted` and specs/Find.antt stand ahead of the code: no call answers by them yet, and no promise holds them.
 #![tactic(auto)]
 
 use layout::Refusal;

@@ -16,13 +16,13 @@ use Rattle.editor.proofs.Adding.{goes-within, add-outside, add-unnamed, add-unru
 use Rattle.editor.proofs.add_at.Goals as goal
 
 pub returns-then-not-inside : goal.returns-then-not-inside
-returns-then-not-inside c = let a = c.args in rw c.refused.ensures (((let w = outcome (add-outside (shape a.format) a.edition a.image.now a.start a.over (raws_in (walked a.format a.image.now a.start a.end)) a.x a.values.now a.out.now (sym c.parts_inside-inside.ensures ∙ c.if-not-inside.true)) in record { value = w.0; out_after = w.1 })))
+returns-then-not-inside c = let a = c.args in rw c.refused.ensures (let w = outcome (add-outside (shape a.format) a.edition a.image.now a.start a.over (raws_in (walked a.format a.image.now a.start a.end)) a.x a.values.now a.out.now (sym c.parts_inside-inside.ensures ∙ c.if-not-inside.true)) in record { value = w.0; out_after = w.1 })
 
 pub returns-then-not-named : goal.returns-then-not-named
-returns-then-not-named c = let a = c.args in rw c.refused-then-not-named.ensures (((let w = outcome (add-unnamed (shape a.format) a.edition a.image.now a.start a.over (raws_in (walked a.format a.image.now a.start a.end)) a.x a.values.now a.out.now (sym c.parts_inside-inside.ensures ∙ c.if-not-inside.false) (sym c.is_named-named.ensures ∙ c.if-not-named.true)) in record { value = w.0; out_after = w.1 })))
+returns-then-not-named c = let a = c.args in rw c.refused-then-not-named.ensures (let w = outcome (add-unnamed (shape a.format) a.edition a.image.now a.start a.over (raws_in (walked a.format a.image.now a.start a.end)) a.x a.values.now a.out.now (sym c.parts_inside-inside.ensures ∙ c.if-not-inside.false) (sym c.is_named-named.ensures ∙ c.if-not-named.true)) in record { value = w.0; out_after = w.1 })
 
 pub returns-then-not-meets_rule : goal.returns-then-not-meets_rule
-returns-then-not-meets_rule c = let a = c.args in rw c.refused-then-not-meets_rule.ensures (((let w = outcome (add-unruled (shape a.format) a.edition a.image.now a.start a.over (raws_in (walked a.format a.image.now a.start a.end)) a.x a.values.now a.out.now (sym c.parts_inside-inside.ensures ∙ c.if-not-inside.false) (sym c.is_named-named.ensures ∙ c.if-not-named.false) (sym c.meets_rule.ensures ∙ c.if-not-meets_rule.true)) in record { value = w.0; out_after = w.1 })))
+returns-then-not-meets_rule c = let a = c.args in rw c.refused-then-not-meets_rule.ensures (let w = outcome (add-unruled (shape a.format) a.edition a.image.now a.start a.over (raws_in (walked a.format a.image.now a.start a.end)) a.x a.values.now a.out.now (sym c.parts_inside-inside.ensures ∙ c.if-not-inside.false) (sym c.is_named-named.ensures ∙ c.if-not-named.false) (sym c.meets_rule.ensures ∙ c.if-not-meets_rule.true)) in record { value = w.0; out_after = w.1 })
 
 pub put_between-requires : goal.put_between-requires
 put_between-requires c = let a = c.args in
@@ -31,7 +31,7 @@ put_between-requires c = let a = c.args in
 
 pub returns-in-Seen : goal.returns-in-Seen
 returns-in-Seen c = let a = c.args in rw c.refused-in-Seen.ensures
-    (((let w = outcome (add-new (shape a.format) a.edition a.image.now a.start a.over (raws_in (walked a.format a.image.now a.start a.end)) a.x a.values.now a.out.now (sym c.parts_inside-inside.ensures ∙ c.if-not-inside.false) (sym c.is_named-named.ensures ∙ c.if-not-named.false) (sym c.meets_rule.ensures ∙ c.if-not-meets_rule.false) (rw c.field_key-key.ensures at (sym c.find_place-place.ensures ∙ c.in-Seen.is))) in record { value = w.0; out_after = w.1 })))
+    (let w = outcome (add-new (shape a.format) a.edition a.image.now a.start a.over (raws_in (walked a.format a.image.now a.start a.end)) a.x a.values.now a.out.now (sym c.parts_inside-inside.ensures ∙ c.if-not-inside.false) (sym c.is_named-named.ensures ∙ c.if-not-named.false) (sym c.meets_rule.ensures ∙ c.if-not-meets_rule.false) (rw c.field_key-key.ensures at (sym c.find_place-place.ensures ∙ c.in-Seen.is))) in record { value = w.0; out_after = w.1 })
 
 pub returns-in-Goes : goal.returns-in-Goes
 returns-in-Goes c = let a = c.args in

@@ -10,14 +10,14 @@ use Rattle.editor.proofs.Changes.{edit-unnamed, edit-length, edit-value, edit-pu
 use Rattle.editor.proofs.edit_at.Goals as goal
 
 pub returns-then-not-is_named : goal.returns-then-not-is_named
-returns-then-not-is_named c = let a = c.args in rw c.refused.ensures (((let w = outcome (edit-unnamed (shape a.format) a.edition a.image.now a.start a.over a.p a.f a.value.now a.out.now (sym c.is_named.ensures ∙ c.if-not-is_named.true)) in record { value = w.0; out_after = w.1 })))
+returns-then-not-is_named c = let a = c.args in rw c.refused.ensures (let w = outcome (edit-unnamed (shape a.format) a.edition a.image.now a.start a.over a.p a.f a.value.now a.out.now (sym c.is_named.ensures ∙ c.if-not-is_named.true)) in record { value = w.0; out_after = w.1 })
 
 pub returns-then-not-length_rule : goal.returns-then-not-length_rule
-returns-then-not-length_rule c = let a = c.args in rw c.refused-then-not-length_rule.ensures (((let w = outcome (edit-length (shape a.format) a.edition a.image.now a.start a.over a.p a.f a.value.now a.out.now (sym c.is_named.ensures ∙ c.if-not-is_named.false) (sym c.length_rule.ensures ∙ c.if-not-length_rule.true)) in record { value = w.0; out_after = w.1 })))
+returns-then-not-length_rule c = let a = c.args in rw c.refused-then-not-length_rule.ensures (let w = outcome (edit-length (shape a.format) a.edition a.image.now a.start a.over a.p a.f a.value.now a.out.now (sym c.is_named.ensures ∙ c.if-not-is_named.false) (sym c.length_rule.ensures ∙ c.if-not-length_rule.true)) in record { value = w.0; out_after = w.1 })
 
 pub returns-then-not-value_rule : goal.returns-then-not-value_rule
 returns-then-not-value_rule c = let a = c.args in rw c.refused-then-not-value_rule.ensures
-    (((let w = outcome (edit-value (shape a.format) a.edition a.image.now a.start a.over a.p a.f a.value.now a.out.now (sym c.is_named.ensures ∙ c.if-not-is_named.false) (sym c.length_rule.ensures ∙ c.if-not-length_rule.false) (sym c.value_rule.ensures ∙ c.if-not-value_rule.true)) in record { value = w.0; out_after = w.1 })))
+    (let w = outcome (edit-value (shape a.format) a.edition a.image.now a.start a.over a.p a.f a.value.now a.out.now (sym c.is_named.ensures ∙ c.if-not-is_named.false) (sym c.length_rule.ensures ∙ c.if-not-length_rule.false) (sym c.value_rule.ensures ∙ c.if-not-value_rule.true)) in record { value = w.0; out_after = w.1 })
 
 pub put_between-requires : goal.put_between-requires
 put_between-requires c = let w = c.requires.1 in record { out_len_bound = (c.requires.0, sym c.length_rule.ensures ∙ c.if-not-length_rule.false); start_le_cut = (omega (arith, w.begins), w.ends) }

@@ -6,8 +6,8 @@ use Rattle.editor.proofs.put_entries.Goals as goal
 
 pub returns-then-not-fits : goal.returns-then-not-fits
 returns-then-not-fits c = let a = c.args in rw c.refused.ensures
-    (((let w = outcome
-    (spliced-not a.format a.x a.key.now a.value.now a.front.now a.after.now a.out.now c.fresh_length.ensures c.add_capped-fresh.ensures c.add_capped-n.ensures c.fits.ensures (c.if-not-fits.true)) in record { value = w.0; out_after = w.1 })))
+    (let w = outcome
+    (spliced-not a.format a.x a.key.now a.value.now a.front.now a.after.now a.out.now c.fresh_length.ensures c.add_capped-fresh.ensures c.add_capped-n.ensures c.fits.ensures (c.if-not-fits.true)) in record { value = w.0; out_after = w.1 })
 
 pub lay_entries-requires : goal.lay_entries-requires
 lay_entries-requires c = let a = c.args in record { out_len_bound = c.requires; after_in_bounds = spliced-room a.format a.x a.key.now a.value.now a.front.now a.after.now a.out.now c.fresh_length.ensures c.add_capped-fresh.ensures c.add_capped-n.ensures c.fits.ensures (c.if-not-fits.false) }

@@ -9,10 +9,10 @@ use Rattle.editor.proofs.Changes.{remove-unnamed, remove-required, remove-put}
 use Rattle.editor.proofs.remove_at.Goals as goal
 
 pub returns-then-not-is_named : goal.returns-then-not-is_named
-returns-then-not-is_named c = let a = c.args in rw c.refused.ensures (((let w = outcome (remove-unnamed (shape a.format) a.edition a.image.now a.start a.over a.at a.f a.out.now (sym c.is_named.ensures ∙ c.if-not-is_named.true)) in record { value = w.0; out_after = w.1 })))
+returns-then-not-is_named c = let a = c.args in rw c.refused.ensures (let w = outcome (remove-unnamed (shape a.format) a.edition a.image.now a.start a.over a.at a.f a.out.now (sym c.is_named.ensures ∙ c.if-not-is_named.true)) in record { value = w.0; out_after = w.1 })
 
 pub returns-then-is_required : goal.returns-then-is_required
-returns-then-is_required c = let a = c.args in rw c.refused-then-is_required.ensures (((let w = outcome (remove-required (shape a.format) a.edition a.image.now a.start a.over a.at a.f a.out.now (sym c.is_named.ensures ∙ c.if-not-is_named.false) (sym c.is_required.ensures ∙ c.if-is_required.true)) in record { value = w.0; out_after = w.1 })))
+returns-then-is_required c = let a = c.args in rw c.refused-then-is_required.ensures (let w = outcome (remove-required (shape a.format) a.edition a.image.now a.start a.over a.at a.f a.out.now (sym c.is_named.ensures ∙ c.if-not-is_named.false) (sym c.is_required.ensures ∙ c.if-is_required.true)) in record { value = w.0; out_after = w.1 })
 
 pub returns : goal.returns
 unfolding spliced

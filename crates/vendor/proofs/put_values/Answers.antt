@@ -19,13 +19,13 @@ pub returns-then-n-gt65536 : goal.returns-then-n-gt65536
 returns-then-n-gt65536 c = let s = c.args.serial.now in
     let o = c.args.offsets in
     let ps = pieces_in c.args.pieces.now in
-    let d = c.args.out.now in rw c.at_zero.ensures (((let w = outcome (values-short s o ps c.requires.3 d (omega (arith, c.requires.0, c.requires.2, c.if-n-gt65536.true))) in record { value = w.0; out_after = w.1 })))
+    let d = c.args.out.now in rw c.at_zero.ensures (let w = outcome (values-short s o ps c.requires.3 d (omega (arith, c.requires.0, c.requires.2, c.if-n-gt65536.true))) in record { value = w.0; out_after = w.1 })
 
 pub returns-then-out-total : goal.returns-then-out-total
 returns-then-out-total c = let s = c.args.serial.now in
     let o = c.args.offsets in
     let ps = pieces_in c.args.pieces.now in
-    let d = c.args.out.now in rw c.at_zero-then-out-total.ensures (((let w = outcome (values-short s o ps c.requires.3 d (omega (arith, c.requires.2, c.if-out-total.true))) in record { value = w.0; out_after = w.1 })))
+    let d = c.args.out.now in rw c.at_zero-then-out-total.ensures (let w = outcome (values-short s o ps c.requires.3 d (omega (arith, c.requires.2, c.if-out-total.true))) in record { value = w.0; out_after = w.1 })
 
 pub put_pieces-requires : goal.put_pieces-requires
 put_pieces-requires c = let s = c.args.serial.now in

@@ -18,7 +18,7 @@ use Rattle.vendor.proofs.take_room.Goals as goal
 pub returns-then-not-j : goal.returns-then-not-j
 returns-then-not-j c = let a = c.args in
     let ms : List Content = matching (map content (raws_in (walked Onie a.image.now a.start a.end))) in
-    let none : is_there ms ≡ false = sym (ap (λ (x : Joined). x.found) c.join-j.ensures.value) ∙ not-true _ c.if-not-j.true in rw c.at_zero.ensures (((let w = outcome (none-match ms a.buffer.now none) in record { value = w.0; buffer_after = w.1 })))
+    let none : is_there ms ≡ false = sym (ap (λ (x : Joined). x.found) c.join-j.ensures.value) ∙ not-true _ c.if-not-j.true in rw c.at_zero.ensures (let w = outcome (none-match ms a.buffer.now none) in record { value = w.0; buffer_after = w.1 })
 
 pub returns : goal.returns
 returns c = let a = c.args in
