@@ -25,9 +25,8 @@ returns-then-not-inside c = let a = c.args in
     let S : Shape = shape a.format in
     let values = a.values.now in
     let seen : List Label = field_labels S values (take a.n (fields_in a.fields.now)) in
-    let n : names S a.edition a.x.code ≡ true = sym c.is_named-named.ensures ∙ c.if-not-named.false in
     let p : parts_inside S.keyed a.x values ≡ false = sym c.parts_inside-inside.ensures ∙ c.if-not-inside.true in
-    sym (fault-outside S a.edition values a.shut seen a.x n p)
+    sym (fault-outside S a.edition values a.shut seen a.x (sym c.is_named-named.ensures ∙ c.if-not-named.false) p)
 
 pub returns-then-shut : goal.returns-then-shut
 returns-then-shut c = let a = c.args in
