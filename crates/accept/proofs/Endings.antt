@@ -6,9 +6,9 @@ use mathlib.Core.List.{List}
 use mathlib.Core.Bool.{Bool}
 use native.Mathlib.Omega.{arith}
 use lib.ListN.{length, get_or, drop, take-append-drop}
+use Rattle.std.specs.Prelude.{Ok, Some}
 use Rattle.layout.specs.declared.Format.{Format}
 use Rattle.layout.specs.declared.Frame.{Frame}
-use Rattle.layout.specs.declared.Next.TheVariants.{Framed}
 use Rattle.layout.specs.Bytes.{part}
 use Rattle.layout.specs.Shape.{next}
 use Rattle.layout.specs.Editions.{shape}
@@ -18,15 +18,14 @@ use Rattle.laws.proofs.Records.{raw-placed}
 use Rattle.laws.proofs.Walking.{walk-frame}
 use Rattle.laws.proofs.Passes.{raw-code, part-on, part-most, part-byte, part-within}
 use Rattle.laws.proofs.Formats.{laws}
-use Rattle.accept.specs.declared.Ending.TheVariants.{Ends}
-use Rattle.accept.specs.declared.Judgement.{Judgement}
+use Rattle.accept.specs.Answers.{Judgement, Ending}
 use Rattle.accept.specs.Passes.{walk_ending}
 
 ending-more : (n : ℕ) (j : Judgement) (r : Raw) (w : Walked) → walk_ending n j (more r w) ≡ walk_ending (n + 1) j w
-ending-more n j r (done rs p) = ap (λ (k : ℕ). Ends k p j) (let q : n + suc (length rs) ≡ n + 1 + length rs = omega arith in q)
+ending-more n j r (done rs p) = ap {B = Ending} (λ (k : ℕ). Ok (record { count = k; over = p; judgement = j })) (let q : n + suc (length rs) ≡ n + 1 + length rs = omega arith in q)
 ending-more n j r (stop k p) = refl
 
-module _ (f : Format) (image : List ℕ) (end : ℕ) (shut : Bool) (p : ℕ) (x : Frame) (e : next (shape f) shut (part p (end - p) image) ≡ Framed x) where
+module _ (f : Format) (image : List ℕ) (end : ℕ) (shut : Bool) (p : ℕ) (x : Frame) (e : next (shape f) shut (part p (end - p) image) ≡ Ok (Some x)) where
   -- a frame's key and its value lie inside it
   pub frame-parts : (x.key + x.klen ≤ x.size) × (x.val + x.vlen ≤ x.size)
   frame-parts =

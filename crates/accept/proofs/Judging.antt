@@ -7,10 +7,12 @@ use mathlib.Core.Bool.{Bool, true, false}
 use native.Mathlib.Omega.{arith}
 use native.Mathlib.Nat.{zero-add, add-zero}
 use lib.ListN.{length, set, replicate}
+use Rattle.std.specs.Prelude.{Ok, Err, Some, None}
+use Rattle.std.specs.declared.option.Option.{Option}
+use Rattle.layout.specs.Answers.{fault_told}
 use Rattle.layout.specs.declared.Format.{Format}
 use Rattle.layout.specs.declared.Frame.{Frame}
-use Rattle.layout.specs.declared.Next.TheVariants.{Framed, Ended, Broken}
-use Rattle.layout.specs.Bytes.{if, part}
+use Rattle.layout.specs.Bytes.{if, part, refusal}
 use Rattle.layout.specs.Shape.{Shape, Label, next, fine}
 use Rattle.layout.specs.Editions.{shape, names}
 use Rattle.layout.specs.Walk.{Raw, Content, content, label_of, Walked, done, stop, more, walk, labels_of}
@@ -24,9 +26,7 @@ use Rattle.laws.proofs.Names.{required-bytes}
 use Rattle.laws.proofs.Walking.{walk_end, walk-bad}
 use Rattle.keys.specs.Filter.{may_repeat, with_key}
 use Rattle.keys.proofs.Seen.{key_seen, Knows, none-known, one_known, unknown-unseen}
-use Rattle.accept.specs.declared.Ending.{Ending}
-use Rattle.accept.specs.declared.Ending.TheVariants.{Ends, Stops}
-use Rattle.accept.specs.declared.Judgement.TheVariants.{Faulty}
+use Rattle.accept.specs.Answers.{Ending}
 use Rattle.accept.specs.Passes.{Passed, walk_ending, judgement, ending_of}
 use Rattle.frames.proofs.Spots.{framed-inside}
 use Rattle.accept.proofs.Endings.{frame-says, walk-takes}
@@ -51,6 +51,16 @@ module _ (S : Shape) (e : ℕ) (seen : List Label) (c : Content) where
   unfolding fault reader_rule
   fault-seen n k v b s = rw (n, k, v, s)
 
+-- a fault that is told is one
+some-told : (n k : ℕ) → Some k ≡ fault_told n → (n ≡ k) × (0 < k)
+some-told zero k q = let z : ◌≡◌ {A = ℕ} 0 1 = cc in absurd (omega arith)
+some-told (suc n) k q = let same : suc n ≡ k = cc in (same, omega arith)
+
+-- none is told where there is none
+none-told : (n : ℕ) → None ≡ fault_told n → n ≡ 0
+none-told zero q = refl
+none-told (suc n) q = let z : ◌≡◌ {A = ℕ} 0 1 = cc in absurd (omega arith)
+
 -- ---- the loop
 
 codes-snoc : (rs : List Raw) (r : Raw) → codes_of (rs ++ (r ∷ [])) ≡ codes_of rs ++ (r.frame.code ∷ [])
@@ -59,26 +69,28 @@ codes-snoc rs r = joined-append codes_of (λ x. x.frame.code ∷ []) refl (λ x 
 labels-snoc : (rs : List Raw) (r : Raw) → labels_of (rs ++ (r ∷ [])) ≡ labels_of rs ++ (label_of (content r) ∷ [])
 labels-snoc rs r = joined-append labels_of (λ x. label_of (content x) ∷ []) refl (λ x xs. refl) rs (r ∷ [])
 
-passed-snoc : (f : Format) (image : List ℕ) (end : ℕ) (b c : Bool) (q p : ℕ) (rs : List Raw) (x : Frame) → Passed f image end b q rs c p → next (shape f) c (part p (end - p) image) ≡ Framed x →
+passed-snoc : (f : Format) (image : List ℕ) (end : ℕ) (b c : Bool) (q p : ℕ) (rs : List Raw) (x : Frame) → Passed f image end b q rs c p → next (shape f) c (part p (end - p) image) ≡ Ok (Some x) →
     Passed f image end b q (rs ++ (raw_of x (part p (end - p) image) ∷ [])) ((shape f).last x.code) (p + x.size)
 passed-snoc f image end b c q p [] x h n = rw (h.0, h.1) (n, refl, (refl, refl))
 passed-snoc f image end b c q p (r ∷ rs) x h n = (h.0, h.1, passed-snoc f image end ((shape f).last r.frame.code) c (q + r.frame.size) p rs x h.2 n)
 
 -- how the pass ends, where n entries are passed, the next stands at p, and the walk from there on is w
 abbrev ending_from : Format → ℕ → List Raw → ℕ → ℕ → Walked → Ending
-ending_from f e past n p (done rs q) = Ends (n + length rs) q (judgement (judge (shape f) e (labels_of past) rs p) (complete (shape f).required (codes_of past ++ codes_of rs)))
-ending_from f e past n p (stop k q) = Stops k q
+ending_from f e past n p (done rs q) =
+    Ok (record { count = n + length rs; over = q; judgement = judgement (judge (shape f) e (labels_of past) rs p) (complete (shape f).required (codes_of past ++ codes_of rs)) })
+ending_from f e past n p (stop k q) = Err (refusal k q)
 
 from_first : (f : Format) (e start : ℕ) (w : Walked) → ending_of f e w start ≡ ending_from f e [] 0 start w
 from_first f e start (done rs q) = rw (zero-add (length rs))
 from_first f e start (stop k q) = refl
 
 -- a fault is the judgement, whatever entries follow
-from-fault : (f : Format) (e : ℕ) (past : List Raw) (n p : ℕ) (r : Raw) (w : Walked) (k : ℕ) → fault (shape f) e (labels_of past) (content r) ≡ suc k →
-    ending_from f e past n p (more r w) ≡ walk_ending n (Faulty (suc k) p) (more r w)
+from-fault : (f : Format) (e : ℕ) (past : List Raw) (n p : ℕ) (r : Raw) (w : Walked) (k : ℕ) → fault (shape f) e (labels_of past) (content r) ≡ k → 0 < k →
+    ending_from f e past n p (more r w) ≡ walk_ending n (Err (refusal k p)) (more r w)
 unfolding judge
-from-fault f e past n p r (done rs q) k h = rw h
-from-fault f e past n p r (stop m q) k h = refl
+from-fault f e past n p r (done rs q) zero h some = absurd (omega (arith, some))
+from-fault f e past n p r (done rs q) (suc k) h some = rw h
+from-fault f e past n p r (stop m q) k h some = refl
 
 -- without one the pass goes on
 from-fine : (f : Format) (e : ℕ) (past : List Raw) (n p : ℕ) (r : Raw) (w : Walked) → fault (shape f) e (labels_of past) (content r) ≡ 0 →
@@ -113,42 +125,42 @@ along-first f e image start end words le =
 
 module _ (f : Format) (e : ℕ) (image : List ℕ) (start end p n : ℕ) (shut : Bool) (marks words : List ℕ) (w : Along f e image start end p n shut marks words) where
   -- the entries end here: all are fine, and the marks tell whether they are complete
-  pub along-ended : next (shape f) shut (part p (end - p) image) ≡ Ended → (b : Bool) → b ≡ all_marked (shape f).required marks →
-      ending_of f e (walked f image start end) start ≡ Ends n p (judgement fine b)
+  pub along-ended : next (shape f) shut (part p (end - p) image) ≡ Ok None → (b : Bool) → b ≡ all_marked (shape f).required marks →
+      ending_of f e (walked f image start end) start ≡ Ok (record { count = n; over = p; judgement = judgement fine b })
   unfolding judge
   along-ended x b q =
       w.left ∙ rw (walk_end (shape f) shut p (part p (end - p) image) x, add-zero n, append-nil (codes_of w.past))
-      (ap (λ (t : Bool). Ends n p (judgement fine t)) (sym (q ∙ marked-complete (shape f).required (codes_of w.past) marks (required-bytes f) w.is_marked)))
+      (ap {B = Ending} (λ (t : Bool). Ok (record { count = n; over = p; judgement = judgement fine t })) (sym (q ∙ marked-complete (shape f).required (codes_of w.past) marks (required-bytes f) w.is_marked)))
 
   -- a frame is broken
-  pub along-broken : (k : ℕ) → next (shape f) shut (part p (end - p) image) ≡ Broken k → ending_of f e (walked f image start end) start ≡ Stops k p
+  pub along-broken : (k : ℕ) → next (shape f) shut (part p (end - p) image) ≡ Err k → ending_of f e (walked f image start end) start ≡ Err (refusal k p)
   along-broken k x = w.left ∙ rw (walk-bad (shape f) shut p (part p (end - p) image) k x)
 
-  module _ (x : Frame) (nx : next (shape f) shut (part p (end - p) image) ≡ Framed x) where
+  module _ (x : Frame) (nx : next (shape f) shut (part p (end - p) image) ≡ Ok (Some x)) where
     -- the walk after this frame
     abbrev rest : Walked
     rest = walk (shape f) ((shape f).last x.code) (p + x.size) (part (p + x.size) (end - (p + x.size)) image)
 
     -- what is found wrong with its code, key and value, where the marks, the filter and the entries passed tell whether it comes a second time, is its fault
-    pub along-judges : (key value : List ℕ) (known repeated : Bool) (k : ℕ) → key ≡ part (p + x.key) x.klen image → value ≡ part (p + x.val) x.vlen image → known ≡ may_repeat words x.code key →
+    pub along-judges : (key value : List ℕ) (known repeated : Bool) (k : Option ℕ) → key ≡ part (p + x.key) x.klen image → value ≡ part (p + x.val) x.vlen image → known ≡ may_repeat words x.code key →
         ((past : List Raw) (shut : Bool) → Passed f image end false start past shut p → Marks (codes_of past) marks → (known ≡ false → key_seen (labels_of past) key ≡ false) →
         repeated ≡ seen_before (shape f) (labels_of past) (record { code = x.code; key = key })) →
-        ((seen : List Label) → repeated ≡ seen_before (shape f) seen (record { code = x.code; key = key }) → k ≡ fault (shape f) e seen (record { code = x.code; key = key; value = value })) →
-        k ≡ fault (shape f) e (labels_of w.past) (content (raw_of x (part p (end - p) image)))
+        ((seen : List Label) → repeated ≡ seen_before (shape f) seen (record { code = x.code; key = key }) → k ≡ fault_told (fault (shape f) e seen (record { code = x.code; key = key; value = value }))) →
+        k ≡ fault_told (fault (shape f) e (labels_of w.past) (content (raw_of x (part p (end - p) image))))
     along-judges key value known repeated k is_key is_value noted sees finds =
         let before = sees w.past shut w.passed w.is_marked (λ unknown. unknown-unseen (labels_of w.past) words x.code key w.is_known (sym noted ∙ unknown)) in
         rw (frame-says f image end shut p x nx, ← is_key, ← is_value) (finds (labels_of w.past) before)
 
     -- a rule is broken: the frames that follow may still be
-    pub along-fault : (k : ℕ) → k ≡ fault (shape f) e (labels_of w.past) (content (raw_of x (part p (end - p) image))) → (k ≡ 0 → ⊥) →
-        ending_of f e (walked f image start end) start ≡ walk_ending n (Faulty k p) (walk (shape f) shut p (part p (end - p) image))
-    along-fault zero q no_zero = absurd (no_zero refl)
-    along-fault (suc k) q no_zero =
+    pub along-fault : (k : ℕ) → Some k ≡ fault_told (fault (shape f) e (labels_of w.past) (content (raw_of x (part p (end - p) image)))) →
+        ending_of f e (walked f image start end) start ≡ walk_ending n (Err (refusal k p)) (walk (shape f) shut p (part p (end - p) image))
+    along-fault k q =
+        let told = some-told (fault (shape f) e (labels_of w.past) (content (raw_of x (part p (end - p) image)))) k q in
         let takes = walk-takes f image end shut p x nx in
-        w.left ∙ ap (ending_from f e w.past n p) takes ∙ from-fault f e w.past n p (raw_of x (part p (end - p) image)) rest k (sym q) ∙ ap (walk_ending n (Faulty (suc k) p)) (sym takes)
+        w.left ∙ ap (ending_from f e w.past n p) takes ∙ from-fault f e w.past n p (raw_of x (part p (end - p) image)) rest k told.0 told.1 ∙ ap (walk_ending n (Err (refusal k p))) (sym takes)
 
     -- nothing is wrong, and the pass goes on
-    pub along-on : x.code < 256 → 0 ≡ fault (shape f) e (labels_of w.past) (content (raw_of x (part p (end - p) image))) →
+    pub along-on : x.code < 256 → None ≡ fault_told (fault (shape f) e (labels_of w.past) (content (raw_of x (part p (end - p) image)))) →
         Along f e image start end (p + x.size) (n + 1) ((shape f).last x.code) (set marks x.code 1) (with_key words x.code (part (p + x.key) x.klen image))
     along-on lt q =
         let r : Raw = raw_of x (part p (end - p) image) in
@@ -161,7 +173,7 @@ module _ (f : Format) (e : ℕ) (image : List ℕ) (start end p n : ℕ) (shut :
           passed = passed-snoc f image end false shut start p w.past x w.passed nx;
           is_marked = rw (codes-snoc w.past r) (one-marked (codes_of w.past) marks x.code lt w.is_marked);
           is_known = rw seen (one_known (labels_of w.past) words (record { code = x.code; key = part (p + x.key) x.klen image }) w.is_known);
-          left = w.left ∙ ap (ending_from f e w.past n p) (walk-takes f image end shut p x nx) ∙ from-fine f e w.past n p r rest (sym q);
+          left = w.left ∙ ap (ending_from f e w.past n p) (walk-takes f image end shut p x nx) ∙ from-fine f e w.past n p r rest (none-told (fault (shape f) e (labels_of w.past) (content r)) q);
           bound = i.2;
           few = omega arith;
         }

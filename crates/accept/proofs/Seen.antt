@@ -7,11 +7,11 @@ use mathlib.Core.Bool.{Bool, true, false, ◌&&◌}
 use native.Mathlib.Omega.{arith}
 use lib.ListN.{take}
 use lib.Dec.{eqb}
+use Rattle.std.specs.Prelude.{Ok, Some}
 use Rattle.layout.specs.declared.Format.{Format}
 use Rattle.layout.specs.declared.Format.TheVariants.{Vpd}
 use Rattle.layout.specs.declared.Frame.{Frame}
-use Rattle.layout.specs.declared.Next.{Next}
-use Rattle.layout.specs.declared.Next.TheVariants.{Framed}
+use Rattle.layout.specs.Answers.{Next}
 use Rattle.layout.specs.Bytes.{if, same_bytes, part}
 use Rattle.layout.specs.Shape.{next}
 use Rattle.layout.specs.Vpd.{vpd}
@@ -69,14 +69,14 @@ module _ (image : List ℕ) (start end p : ℕ) (key : List ℕ) where
             absurd (omega (arith, passed_on Vpd image end ((shape Vpd).last r.frame.code) shut (q + r.frame.size) p rs g.2))
 
     -- a frame stands at each place before it
-    pub look-framed : q < p → (x : Next) → next (shape Vpd) false (part q (end - q) image) ≡ x → ((f : Frame) → x ≡ Framed f → ⊥) → ⊥
+    pub look-framed : q < p → (x : Next) → next (shape Vpd) false (part q (end - q) image) ≡ x → ((f : Frame) → x ≡ Ok (Some f) → ⊥) → ⊥
     look-framed lt x n no-frame = go (w past shut h).todo (w past shut h).passed
       where
         go : (todo : List Raw) → Passed Vpd image end false q todo shut p → ⊥
         go [] g = omega (arith, g.1)
         go (r ∷ rs) g = no-frame r.frame (sym n ∙ g.0)
 
-    module _ (f : Frame) (e : next (shape Vpd) false (part q (end - q) image) ≡ Framed f) (lt : q < p) where
+    module _ (f : Frame) (e : next (shape Vpd) false (part q (end - q) image) ≡ Ok (Some f)) (lt : q < p) where
       -- the first entry that is left is that frame's
       record Heads (todo : List Raw) : Type 0 where
         rest : List Raw

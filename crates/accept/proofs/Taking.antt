@@ -7,9 +7,8 @@ use mathlib.Core.Bool.{Bool, true, false}
 use native.Mathlib.Omega.{arith}
 use lib.ListN.{length, length-append}
 use borrow.Author.Tests.{lt-ltb, le-ltb}
+use Rattle.std.specs.Prelude.{Ok, Err}
 use Rattle.layout.specs.declared.Format.{Format}
-use Rattle.layout.specs.declared.Chosen.TheVariants.{Known, Unknown}
-use Rattle.layout.specs.declared.Opened.TheVariants.{Room, Closed}
 use Rattle.layout.specs.declared.Refusal.{Refusal}
 use Rattle.layout.specs.Bytes.{part, refusal}
 use Rattle.layout.specs.Shape.{Judged, fine, faulty}
@@ -21,79 +20,81 @@ use Rattle.laws.proofs.Passes.{part-most}
 use Rattle.laws.proofs.Walking.{walk-decode}
 use Rattle.laws.proofs.Images.{accepted-made}
 use Rattle.laws.proofs.Formats.{laws}
-use Rattle.accept.specs.declared.Ending.TheVariants.{Ends, Stops}
-use Rattle.accept.specs.declared.Judgement.{Judgement}
-use Rattle.accept.specs.declared.Judgement.TheVariants.{Fine, Faulty}
-use Rattle.accept.specs.declared.Taken.TheVariants.{Is, Isnt}
+use Rattle.accept.specs.declared.Pass.{Pass}
 use Rattle.accept.specs.Passes.{walk_ending, judgement, judged, ending_of}
 use Rattle.accept.specs.Taken.{room_taken, taken_by, taken}
 
--- a pass that ended with n entries at p, and what the rules came to
-pub record Done (f : Format) (e : ℕ) (image : List ℕ) (start end n p : ℕ) (j : Judgement) : Type 0 where
+-- a pass that ended
+pub record Done (f : Format) (e : ℕ) (image : List ℕ) (start end : ℕ) (x : Pass) : Type 0 where
   pub raws : List Raw
-  pub is_walk : walked f image start end ≡ done raws p
-  pub count : n ≡ length raws
-  pub over : p ≡ start + length (flat raws)
-  pub bound : start ≤ end → p ≤ end
-  pub judges : judged f e raws start ≡ j
+  pub is_walk : walked f image start end ≡ done raws x.over
+  pub count : x.count ≡ length raws
+  pub over : x.over ≡ start + length (flat raws)
+  pub bound : start ≤ end → x.over ≤ end
+  pub judges : judged f e raws start ≡ x.judgement
 
-pub ends-done : (f : Format) (e : ℕ) (image : List ℕ) (start end n p : ℕ) (j : Judgement) → ending_of f e (walked f image start end) start ≡ Ends n p j → Done f e image start end n p j
-ends-done f e image start end n p j q = go (walked f image start end) refl q
+pub ends-done : (f : Format) (e : ℕ) (image : List ℕ) (start end : ℕ) (x : Pass) → ending_of f e (walked f image start end) start ≡ Ok x → Done f e image start end x
+ends-done f e image start end x q = go (walked f image start end) refl q
   where
-    go : (w : Walked) → walked f image start end ≡ w → ending_of f e w start ≡ Ends n p j → Done f e image start end n p j
-    go (done rs r) x q =
-        let place : r ≡ p = cc in
-        let count : length rs ≡ n = cc in
-        let judges : judged f e rs start ≡ j = cc in
-        let walk : walked f image start end ≡ done rs p = x ∙ ap (done rs) place in
-        let d = walk-decode (laws f) start (part start (end - start) image) rs p walk in
-        record { raws = rs; is_walk = walk; count = sym count; over = d.place; bound = λ le. omega (arith, d.place, ap length d.joined, length-append (flat rs) d.rest, part-most image start (end - start)); judges = judges }
-    go (stop k r) x q = let z : ◌≡◌ {A = ℕ} 0 1 = cc in absurd (omega arith)
+    go : (w : Walked) → walked f image start end ≡ w → ending_of f e w start ≡ Ok x → Done f e image start end x
+    go (done rs p) y q =
+        let is : record { count = length rs; over = p; judgement = judged f e rs start } ≡ x = cc in
+        let walk : walked f image start end ≡ done rs x.over = y ∙ ap (λ (z : Pass). done rs z.over) is in
+        let d = walk-decode (laws f) start (part start (end - start) image) rs x.over walk in
+        record {
+          raws = rs;
+          is_walk = walk;
+          count = sym (ap (λ (z : Pass). z.count) is);
+          over = d.place;
+          bound = λ le. omega (arith, d.place, ap length d.joined, length-append (flat rs) d.rest, part-most image start (end - start));
+          judges = ap (λ (z : Pass). z.judgement) is;
+        }
+    go (stop k p) y q = let z : ◌≡◌ {A = ℕ} 0 1 = cc in absurd (omega arith)
 
 -- a walk over the frames alone that stopped, as the pass over frames and rules does
-pub stops-alike : (f : Format) (e start k p : ℕ) (w : Walked) → walk_ending 0 Fine w ≡ Stops k p → Stops k p ≡ ending_of f e w start
-stops-alike f e start k p (done rs r) q = let z : ◌≡◌ {A = ℕ} 0 1 = cc in absurd (omega arith)
-stops-alike f e start k p (stop m r) q = sym q
+pub stops-alike : (f : Format) (e start : ℕ) (r : Refusal) (w : Walked) → walk_ending 0 (Ok tt) w ≡ Err r → Err r ≡ ending_of f e w start
+stops-alike f e start r (done rs p) q = let z : ◌≡◌ {A = ℕ} 0 1 = cc in absurd (omega arith)
+stops-alike f e start r (stop k p) q = sym q
 
 module _ (f : Format) (e : ℕ) (image : List ℕ) (start end : ℕ) where
   -- a broken frame
-  pub room-stops : (k p : ℕ) → ending_of f e (walked f image start end) start ≡ Stops k p → room_taken (read_walked (walked f image start end) f e image start end) end ≡ Isnt (refusal k p)
-  room-stops k p q = go (walked f image start end) q
+  pub room-stops : (r : Refusal) → ending_of f e (walked f image start end) start ≡ Err r → room_taken (read_walked (walked f image start end) f e image start end) end ≡ Err r
+  room-stops r q = go (walked f image start end) q
     where
-      go : (w : Walked) → ending_of f e w start ≡ Stops k p → room_taken (read_walked w f e image start end) end ≡ Isnt (refusal k p)
-      go (done rs r) q = let z : ◌≡◌ {A = ℕ} 0 1 = cc in absurd (omega arith)
-      go (stop m r) q = let x : m ≡ k = cc in let y : r ≡ p = cc in rw (x, y)
+      go : (w : Walked) → ending_of f e w start ≡ Err r → room_taken (read_walked w f e image start end) end ≡ Err r
+      go (done rs p) q = let z : ◌≡◌ {A = ℕ} 0 1 = cc in absurd (omega arith)
+      go (stop k p) q = let is : refusal k p ≡ r = cc in ap Err is
 
   -- a room that is not as the format asks
-  pub room-unfilled : (n p : ℕ) (j : Judgement) → Done f e image start end n p j → (shape f).filled p end ≡ faulty 5 9 →
-      room_taken (read_walked (walked f image start end) f e image start end) end ≡ Isnt (refusal 5 9)
-  room-unfilled n p j d l = rw (d.is_walk, l)
+  pub room-unfilled : (x : Pass) → Done f e image start end x → (shape f).filled x.over end ≡ faulty 5 9 →
+      room_taken (read_walked (walked f image start end) f e image start end) end ≡ Err (refusal 5 9)
+  room-unfilled x d l = rw (d.is_walk, l)
 
   -- a wrong check
-  pub room-unsealed : (n p : ℕ) (j : Judgement) → Done f e image start end n p j → (shape f).filled p end ≡ fine → sealed (shape f) image p ≡ false →
-      room_taken (read_walked (walked f image start end) f e image start end) end ≡ Isnt (refusal 10 (check_place (shape f) p))
-  room-unsealed n p j d l s = rw (d.is_walk, l, s)
+  pub room-unsealed : (x : Pass) → Done f e image start end x → (shape f).filled x.over end ≡ fine → sealed (shape f) image x.over ≡ false →
+      room_taken (read_walked (walked f image start end) f e image start end) end ≡ Err (refusal 10 (check_place (shape f) x.over))
+  room-unsealed x d l s = rw (d.is_walk, l, s)
 
   -- a rule broken, or a required field missing
-  pub room-faulty : (n p k q : ℕ) → Done f e image start end n p (Faulty k q) → (shape f).filled p end ≡ fine → sealed (shape f) image p ≡ true →
-      room_taken (read_walked (walked f image start end) f e image start end) end ≡ Isnt (refusal k q)
-  room-faulty n p k q d l s =
-      rw (d.is_walk, l, s) (go (judge (shape f) e [] d.raws start) (complete (shape f).required (codes_of d.raws)) refl d.judges)
+  pub room-faulty : (x : Pass) (r : Refusal) → Done f e image start end x → x.judgement ≡ Err r → (shape f).filled x.over end ≡ fine → sealed (shape f) image x.over ≡ true →
+      room_taken (read_walked (walked f image start end) f e image start end) end ≡ Err r
+  room-faulty x r d j l s =
+      rw (d.is_walk, l, s) (go (judge (shape f) e [] d.raws start) (complete (shape f).required (codes_of d.raws)) refl (d.judges ∙ j))
     where
-      go : (x : Judged) (b : Bool) → complete (shape f).required (codes_of d.raws) ≡ b → judgement x b ≡ Faulty k q →
-          room_taken (read_complete x f start d.raws) end ≡ Isnt (refusal k q)
+      go : (y : Judged) (b : Bool) → complete (shape f).required (codes_of d.raws) ≡ b → judgement y b ≡ Err r →
+          room_taken (read_complete y f start d.raws) end ≡ Err r
       go fine true c h = let z : ◌≡◌ {A = ℕ} 0 1 = cc in absurd (omega arith)
-      go fine false c h = let y : 11 ≡ k = cc in let z : 0 ≡ q = cc in rw (c, ← y, ← z)
-      go (faulty m r) b c h = let y : m ≡ k = cc in let z : r ≡ q = cc in rw (y, z)
+      go fine false c h = let is : refusal 11 0 ≡ r = cc in rw c (ap Err is)
+      go (faulty k p) b c h = let is : refusal k p ≡ r = cc in ap Err is
 
   -- nothing is wrong
-  pub room-fine : (n p : ℕ) → Done f e image start end n p Fine → (shape f).filled p end ≡ fine → sealed (shape f) image p ≡ true →
-      room_taken (read_walked (walked f image start end) f e image start end) end ≡ Is (record { format = f; start = start; end = end; over = p; count = n })
-  room-fine n p d l s =
-      rw (d.is_walk, l, s, d.over, d.count) (go (judge (shape f) e [] d.raws start) (complete (shape f).required (codes_of d.raws)) refl d.judges)
+  pub room-fine : (x : Pass) → Done f e image start end x → x.judgement ≡ Ok tt → (shape f).filled x.over end ≡ fine → sealed (shape f) image x.over ≡ true →
+      room_taken (read_walked (walked f image start end) f e image start end) end ≡ Ok (record { format = f; start = start; end = end; over = x.over; count = x.count })
+  room-fine x d j l s =
+      rw (d.is_walk, l, s, d.over, d.count) (go (judge (shape f) e [] d.raws start) (complete (shape f).required (codes_of d.raws)) refl (d.judges ∙ j))
     where
-      go : (x : Judged) (b : Bool) → complete (shape f).required (codes_of d.raws) ≡ b → judgement x b ≡ Fine →
-          room_taken (read_complete x f start d.raws) end ≡ Is (record { format = f; start = start; end = end; over = start + length (flat d.raws); count = length d.raws })
+      go : (y : Judged) (b : Bool) → complete (shape f).required (codes_of d.raws) ≡ b → judgement y b ≡ Ok tt →
+          room_taken (read_complete y f start d.raws) end ≡ Ok (record { format = f; start = start; end = end; over = start + length (flat d.raws); count = length d.raws })
       go fine true c h = rw c
       go fine false c h = let z : ◌≡◌ {A = ℕ} 0 1 = cc in absurd (omega arith)
       go (faulty m r) b c h = let z : ◌≡◌ {A = ℕ} 0 1 = cc in absurd (omega arith)
@@ -101,19 +102,19 @@ module _ (f : Format) (e : ℕ) (image : List ℕ) (start end : ℕ) where
 -- ---- the whole image
 
 module _ (f e : ℕ) (image : List ℕ) where
-  pub taken-unknown : (n : ℕ) → chosen f e ≡ Unknown n → taken f e image ≡ Isnt (refusal n 0)
+  pub taken-unknown : (n : ℕ) → chosen f e ≡ Err n → taken f e image ≡ Err (refusal n 0)
   unfolding taken read_image
   taken-unknown n k = rw k
 
-  pub taken-long : (g : Format) → chosen f e ≡ Known g → limit < length image → taken f e image ≡ Isnt (refusal 2 0)
+  pub taken-long : (g : Format) → chosen f e ≡ Ok g → limit < length image → taken f e image ≡ Err (refusal 2 0)
   unfolding taken read_image
   taken-long g k lt = rw (k, lt-ltb limit (length image) lt)
 
-  pub taken-closed : (g : Format) (r : Refusal) → chosen f e ≡ Known g → length image ≤ limit → (shape g).opened image ≡ Closed r → taken f e image ≡ Isnt r
+  pub taken-closed : (g : Format) (r : Refusal) → chosen f e ≡ Ok g → length image ≤ limit → (shape g).opened image ≡ Err r → taken f e image ≡ Err r
   unfolding taken read_image read_as
   taken-closed g r k le o = rw (k, le-ltb limit (length image) le, o)
 
-  pub taken-room : (g : Format) (start end : ℕ) → chosen f e ≡ Known g → length image ≤ limit → (shape g).opened image ≡ Room start end →
+  pub taken-room : (g : Format) (start end : ℕ) → chosen f e ≡ Ok g → length image ≤ limit → (shape g).opened image ≡ Ok (start, end) →
       taken f e image ≡ room_taken (read_walked (walked g image start end) g e image start end) end
   unfolding taken read_image read_as
   taken-room g start end k le o = rw (k, le-ltb limit (length image) le, o) (go (read_walked (walked g image start end) g e image start end) refl)

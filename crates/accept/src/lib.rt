@@ -2,6 +2,7 @@
 #![tactic(auto)]
 
 ghost use Rattle.std.specs.Prelude.{◌≡◌, Bool, false, List, ◌-◌, ◌≤◌, ◌<◌, length};
+ghost use Rattle.layout.specs.Answers.{fault_told};
 ghost use Rattle.layout.specs.Bytes.{part};
 ghost use Rattle.layout.specs.Shape.{Label};
 ghost use Rattle.layout.specs.Editions.{shape};
@@ -13,20 +14,14 @@ ghost use Rattle.keys.proofs.Seen.{key_seen};
 ghost use Rattle.accept.specs.Passes.{Passed, walk_ending, ending_of};
 ghost use Rattle.accept.specs.Taken.{room_taken, taken};
 
-use layout::{Chosen, Format, Next, Opened, Place, Refusal};
+use layout::{Format, Refusal};
 
-// What the rules and the required fields come to: a refusal's number and place, or nothing.
+// How a pass over the entries ends whose frames are sound: with so many of them, at the place `over`, and with what the rules and the required fields come to.
 #[derive(Clone, Copy)]
-pub enum Judgement {
-    Fine,
-    Faulty(u32, usize),
-}
-
-// How a pass over the entries ends: with so many of them at a place, and what the rules come to; or with a refusal's number at a place.
-#[derive(Clone, Copy)]
-pub enum Ending {
-    Ends(usize, usize, Judgement),
-    Stops(u32, usize),
+struct Pass {
+    count: usize,
+    over: usize,
+    judgement: Result<(), Refusal>,
 }
 
 // Where the entries of an accepted image are, and how many: they start at `start`, have room up to `end`, and end at `over`.
@@ -39,276 +34,11 @@ pub struct Room {
     pub count: usize,
 }
 
-#[derive(Clone, Copy)]
-pub enum Taken {
-    Is(Room),
-    Isnt(Refusal),
-}
-
-// A pass over the frames alone, from `start` on, after n entries and with what the rules come to.
-// `shut`: the entry before was one that none may follow.
-fn walk_on(
-    format: Format,
-    shut: bool,
-    image: &[u8],
-    start: usize,
-    end: usize,
-    n: usize,
-    judgement: Judgement,
-) -> Ending
-    requires { (start ≤ end) × (n ≤ start) }
-    ensures { result ≡ walk_ending n judgement (walk (shape format) shut start (part start (end - start) image.now)) }
-{
-    let mut q = start;
-    let mut count = n;
-    let mut closed = shut;
-    loop {
-        let x = frames::next_frame(format, closed, image, q, end);
-        match x {
-            Next::Framed(f) => {
-                closed = frames::is_last(format, f.code);
-                q += f.size;
-                count += 1;
-            }
-            Next::Ended => {
-                return Ending::Ends(count, q, judgement);
-            }
-            Next::Broken(k) => {
-                return Ending::Stops(k, q);
-            }
-        }
-    }
-}
-
-// Whether an entry before p has code 01h and this key.
-fn seen_key(image: &[u8], start: usize, end: usize, p: usize, key: &[u8]) -> bool
-    requires { p ≤ end }
-    ensures { (past : List Raw) (shut : Bool) → Passed Format.Vpd image.now end false start past shut p → result ≡ key_seen (labels_of past) key.now }
-{
-    let mut q = start;
-    while q < p {
-        let x = frames::next_frame(Format::Vpd, false, image, q, end);
-        match x {
-            Next::Framed(f) => {
-                let other = frames::part_of(image, q + f.key, f.klen);
-                if (1 == f.code) & parts::same_bytes(key, other) {
-                    return true;
-                }
-                q += f.size;
-            }
-            Next::Ended => {
-                return false;
-            }
-            Next::Broken(_) => {
-                return false;
-            }
-        }
-    }
-    false
-}
-
-// Whether the entry of this code and key, at p, comes a second time; a VPD 01h does not where its key is not known, and an ONIE FDh never does.
-fn is_seen(
-    format: Format,
-    image: &[u8],
-    start: usize,
-    end: usize,
-    p: usize,
-    code: u32,
-    key: &[u8],
-    known: bool,
-    seen: &[u8; 256],
-) -> bool
-    requires { (p ≤ end) × (code < 256) }
-    ensures { (past : List Raw) (shut : Bool) → Passed format image.now end false start past shut p → Marks (codes_of past) seen.now → (known ≡ false → key_seen (labels_of past) key.now ≡ false) → result ≡ seen_before (shape format) (labels_of past) (record { code = code; key = key.now }) }
-{
-    let at = code as usize;
-    match format {
-        Format::Fboss => seen[at] != 0,
-        Format::Vpd => {
-            if code == 1 {
-                if !known {
-                    return false;
-                }
-                return seen_key(image, start, end, p, key);
-            }
-            seen[at] != 0
-        }
-        Format::Tiny => seen[at] != 0,
-        Format::Onie => {
-            if code == 0xFD {
-                return false;
-            }
-            seen[at] != 0
-        }
-    }
-}
-
-// What is wrong with an entry of this code, key and value: 7, then 8 where it comes a second time, and 0 for nothing.
-fn fault_of(
-    format: Format,
-    edition: u32,
-    code: u32,
-    key: &[u8],
-    value: &[u8],
-    repeated: bool,
-) -> u32
-    ensures { (seen : List Label) → repeated ≡ seen_before (shape format) seen (record { code = code; key = key.now }) → result ≡ fault (shape format) edition seen (record { code = code; key = key.now; value = value.now }) }
-{
-    if !frames::is_named(format, edition, code) {
-        return 0;
-    }
-    if !frames::reader_key(format, code, key) {
-        return 7;
-    }
-    if !frames::value_rule(format, code, value) {
-        return 7;
-    }
-    if repeated {
-        return 8;
-    }
-    0
-}
-
-// One pass over the entries, for the frames and for the rules: a broken frame anywhere comes before what the rules say, so that after the first fault only the frames are looked at.
-// The filter is for the keys that are passed.
-fn read_entries(
-    filter: &mut [u64],
-    format: Format,
-    edition: u32,
-    image: &[u8],
-    start: usize,
-    end: usize,
-) -> Ending
-    requires { start ≤ end }
-    ensures { result ≡ ending_of format edition (walked format image.now start end) start }
-{
-    let mut seen = [0u8; 256];
-    let mut p = start;
-    let mut n: usize = 0;
-    let mut shut = false;
-    loop {
-        let x = frames::next_frame(format, shut, image, p, end);
-        match x {
-            Next::Framed(f) => {
-                let code = f.code;
-                let key = frames::part_of(image, p + f.key, f.klen);
-                let known = keys::note_key(filter, code, key);
-                let repeated = is_seen(format, image, start, end, p, code, key, known, &seen);
-                let value = frames::part_of(image, p + f.val, f.vlen);
-                let k = fault_of(format, edition, code, key, value, repeated);
-                if k != 0 {
-                    return walk_on(format, shut, image, p, end, n, Judgement::Faulty(k, p));
-                }
-                let at = code as usize;
-                seen[at] = 1;
-                shut = frames::is_last(format, code);
-                p += f.size;
-                n += 1;
-            }
-            Next::Ended => {
-                if frames::is_complete(format, &seen) {
-                    return Ending::Ends(n, p, Judgement::Fine);
-                }
-                return Ending::Ends(n, p, Judgement::Faulty(11, 0));
-            }
-            Next::Broken(k) => {
-                return Ending::Stops(k, p);
-            }
-        }
-    }
-}
-
-// The same with a filter for any number of keys.
-fn read_many(format: Format, edition: u32, image: &[u8], start: usize, end: usize) -> Ending
-    requires { start ≤ end }
-    ensures { result ≡ ending_of format edition (walked format image.now start end) start }
-{
-    let mut filter = [0u64; keys::MANY];
-    read_entries(&mut filter, format, edition, image, start, end)
-}
-
-// The same with the filter that is lent, or with a larger one where more words are asked for.
-// It calls itself, and so the compiler gives it no room for the filter of read_many, which a call on few keys would have to touch.
-fn read_sized(
-    filter: &mut [u64],
-    format: Format,
-    edition: u32,
-    image: &[u8],
-    start: usize,
-    end: usize,
-    words: usize,
-) -> Ending
-    requires { start ≤ end }
-    ensures { result ≡ ending_of format edition (walked format image.now start end) start }
-{
-    if words <= filter.len() {
-        return read_entries(filter, format, edition, image, start, end);
-    }
-    if words <= keys::MORE {
-        let mut larger = [0u64; keys::MORE];
-        return read_sized(&mut larger, format, edition, image, start, end, words);
-    }
-    read_many(format, edition, image, start, end)
-}
-
-// The same with a filter of at least so many words, and with none where none are asked for.
-fn read_with(
-    words: usize,
-    format: Format,
-    edition: u32,
-    image: &[u8],
-    start: usize,
-    end: usize,
-) -> Ending
-    requires { start ≤ end }
-    ensures { result ≡ ending_of format edition (walked format image.now start end) start }
-{
-    if words == 0 {
-        let mut none = [0u64; 0];
-        return read_entries(&mut none, format, edition, image, start, end);
-    }
-    let mut filter = [0u64; keys::FEW];
-    read_sized(&mut filter, format, edition, image, start, end, words)
-}
-
 // Whether entries have keys.
 fn is_keyed(format: Format) -> bool
     ensures { result ≡ (shape format).keyed }
 {
-    match format {
-        Format::Fboss => false,
-        Format::Vpd => true,
-        Format::Tiny => false,
-        Format::Onie => false,
-    }
-}
-
-// The same for any entries. Where they have keys the frames are looked at first, as the size of the filter goes by their number.
-fn read_room(format: Format, edition: u32, image: &[u8], start: usize, end: usize) -> Ending
-    requires { start ≤ end }
-    ensures { result ≡ ending_of format edition (walked format image.now start end) start }
-{
-    if !is_keyed(format) {
-        return read_with(0, format, edition, image, start, end);
-    }
-    let w = walk_on(format, false, image, start, end, 0, Judgement::Fine);
-    match w {
-        Ending::Stops(k, p) => Ending::Stops(k, p),
-        Ending::Ends(count, _, _) => {
-            let words = keys::filter_words(format, count);
-            read_with(words, format, edition, image, start, end)
-        }
-    }
-}
-
-fn refused(number: u32, place: usize) -> Taken
-    ensures { result ≡ Taken.Isnt (record { number = number; place = record { 0 = place } }) }
-{
-    Taken::Isnt(Refusal {
-        number: number,
-        place: Place(place),
-    })
+    matches!(format, Format::Vpd)
 }
 
 // The number of bytes between the end of the entries and the check.
@@ -316,58 +46,248 @@ fn closing_length(format: Format) -> usize
     ensures { result ≡ length (shape format).closing }
 {
     match format {
-        Format::Fboss => 2,
+        Format::Fboss | Format::Onie => 2,
         Format::Vpd => 1,
         Format::Tiny => 0,
-        Format::Onie => 2,
     }
 }
 
-// An image whose entries have the room from start to end.
-fn take_room(format: Format, edition: u32, image: &[u8], start: usize, end: usize) -> Taken
-    requires { (start ≤ end) × (end ≤ 65536) }
-    ensures { result ≡ room_taken (read_walked (walked format image.now start end) format edition image.now start end) end }
-{
-    let w = read_room(format, edition, image, start, end);
-    match w {
-        Ending::Stops(k, p) => refused(k, p),
-        Ending::Ends(count, p, j) => {
-            if !frames::is_filled(format, p, end) {
-                return refused(5, 9);
-            }
-            if !frames::is_sealed(format, image, p) {
-                return refused(10, p + closing_length(format));
-            }
-            match j {
-                Judgement::Faulty(k, q) => refused(k, q),
-                Judgement::Fine => Taken::Is(Room {
-                    format: format,
-                    start: start,
-                    end: end,
-                    over: p,
-                    count: count,
-                }),
+// Where the entries of an image lie, and how they are read: by a format and an edition, from `start` on, in a room that ends before `end`.
+#[derive(Clone, Copy)]
+struct Span {
+    format: Format,
+    edition: u32,
+    start: usize,
+    end: usize,
+}
+
+impl Span {
+    // A pass over the frames alone, from p on, after n entries and with what the rules come to.
+    // `shut`: the entry before was one that none may follow.
+    fn walk_on(
+        self,
+        image: &[u8],
+        shut: bool,
+        p: usize,
+        n: usize,
+        judgement: Result<(), Refusal>,
+    ) -> Result<Pass, Refusal>
+        requires { (p ≤ self.end) × (n ≤ p) }
+        ensures { result ≡ walk_ending n judgement (walk (shape self.format) shut p (part p (self.end - p) image.now)) }
+    {
+        let mut q = p;
+        let mut count = n;
+        let mut closed = shut;
+        loop {
+            match frames::next_frame(self.format, closed, image, q, self.end) {
+                Ok(Some(f)) => {
+                    closed = frames::is_last(self.format, f.code);
+                    q += f.size;
+                    count += 1;
+                }
+                Ok(None) => {
+                    return Ok(Pass {
+                        count,
+                        over: q,
+                        judgement,
+                    });
+                }
+                Err(k) => {
+                    return Err(Refusal::at(k, q));
+                }
             }
         }
+    }
+
+    // Whether an entry before p has code 01h and this key.
+    fn seen_key(self, image: &[u8], p: usize, key: &[u8]) -> bool
+        requires { p ≤ self.end }
+        ensures { (past : List Raw) (shut : Bool) → Passed Format.Vpd image.now self.end false self.start past shut p → result ≡ key_seen (labels_of past) key.now }
+    {
+        let mut q = self.start;
+        while q < p {
+            let Ok(Some(f)) = frames::next_frame(Format::Vpd, false, image, q, self.end) else {
+                return false;
+            };
+            let other = frames::part_of(image, q + f.key, f.klen);
+            if f.code == 1 && parts::same_bytes(key, other) {
+                return true;
+            }
+            q += f.size;
+        }
+        false
+    }
+
+    // Whether the entry of this code and key, at p, comes a second time; a VPD 01h does not where its key is not known, and an ONIE FDh never does.
+    fn is_seen(
+        self,
+        image: &[u8],
+        p: usize,
+        code: u32,
+        key: &[u8],
+        known: bool,
+        seen: &[u8; 256],
+    ) -> bool
+        requires { (p ≤ self.end) × (code < 256) }
+        ensures { (past : List Raw) (shut : Bool) → Passed self.format image.now self.end false self.start past shut p → Marks (codes_of past) seen.now → (known ≡ false → key_seen (labels_of past) key.now ≡ false) → result ≡ seen_before (shape self.format) (labels_of past) (record { code = code; key = key.now }) }
+    {
+        match self.format {
+            Format::Vpd if code == 1 => known && self.seen_key(image, p, key),
+            Format::Onie if code == 0xFD => false,
+            _ => seen[code as usize] != 0,
+        }
+    }
+
+    // What is wrong with an entry of this code, key and value, if anything: 7, then 8 where it comes a second time.
+    fn fault_of(self, code: u32, key: &[u8], value: &[u8], repeated: bool) -> Option<u32>
+        ensures { (seen : List Label) → repeated ≡ seen_before (shape self.format) seen (record { code = code; key = key.now }) → result ≡ fault_told (fault (shape self.format) self.edition seen (record { code = code; key = key.now; value = value.now })) }
+    {
+        if !frames::is_named(self.format, self.edition, code) {
+            return None;
+        }
+        if !frames::reader_key(self.format, code, key) {
+            return Some(7);
+        }
+        if !frames::value_rule(self.format, code, value) {
+            return Some(7);
+        }
+        if repeated {
+            return Some(8);
+        }
+        None
+    }
+
+    // One pass over the entries, for the frames and for the rules: a broken frame anywhere comes before what the rules say, so that after the first fault only the frames are looked at.
+    // The filter is for the keys that are passed.
+    fn read_entries(self, image: &[u8], filter: &mut [u64]) -> Result<Pass, Refusal>
+        requires { self.start ≤ self.end }
+        ensures { result ≡ ending_of self.format self.edition (walked self.format image.now self.start self.end) self.start }
+    {
+        let mut seen = [0u8; 256];
+        let mut p = self.start;
+        let mut n: usize = 0;
+        let mut shut = false;
+        loop {
+            match frames::next_frame(self.format, shut, image, p, self.end) {
+                Ok(Some(f)) => {
+                    let key = frames::part_of(image, p + f.key, f.klen);
+                    let known = keys::note_key(filter, f.code, key);
+                    let repeated = self.is_seen(image, p, f.code, key, known, &seen);
+                    let value = frames::part_of(image, p + f.val, f.vlen);
+                    if let Some(k) = self.fault_of(f.code, key, value, repeated) {
+                        return self.walk_on(image, shut, p, n, Err(Refusal::at(k, p)));
+                    }
+                    seen[f.code as usize] = 1;
+                    shut = frames::is_last(self.format, f.code);
+                    p += f.size;
+                    n += 1;
+                }
+                Ok(None) => {
+                    let judgement = if frames::is_complete(self.format, &seen) {
+                        Ok(())
+                    } else {
+                        Err(Refusal::from(11))
+                    };
+                    return Ok(Pass {
+                        count: n,
+                        over: p,
+                        judgement,
+                    });
+                }
+                Err(k) => {
+                    return Err(Refusal::at(k, p));
+                }
+            }
+        }
+    }
+
+    // The same with a filter for any number of keys.
+    fn read_many(self, image: &[u8]) -> Result<Pass, Refusal>
+        requires { self.start ≤ self.end }
+        ensures { result ≡ ending_of self.format self.edition (walked self.format image.now self.start self.end) self.start }
+    {
+        let mut filter = [0u64; keys::MANY];
+        self.read_entries(image, &mut filter)
+    }
+
+    // The same with the filter that is lent, or with a larger one where more words are asked for.
+    // It calls itself, and so the compiler gives it no room for the filter of read_many, which a call on few keys would have to touch.
+    fn read_sized(self, image: &[u8], filter: &mut [u64], words: usize) -> Result<Pass, Refusal>
+        requires { self.start ≤ self.end }
+        ensures { result ≡ ending_of self.format self.edition (walked self.format image.now self.start self.end) self.start }
+    {
+        if words <= filter.len() {
+            return self.read_entries(image, filter);
+        }
+        if words <= keys::MORE {
+            let mut larger = [0u64; keys::MORE];
+            return self.read_sized(image, &mut larger, words);
+        }
+        self.read_many(image)
+    }
+
+    // The same with a filter of at least so many words, and with none where none are asked for.
+    fn read_with(self, image: &[u8], words: usize) -> Result<Pass, Refusal>
+        requires { self.start ≤ self.end }
+        ensures { result ≡ ending_of self.format self.edition (walked self.format image.now self.start self.end) self.start }
+    {
+        if words == 0 {
+            let mut none = [0u64; 0];
+            return self.read_entries(image, &mut none);
+        }
+        let mut filter = [0u64; keys::FEW];
+        self.read_sized(image, &mut filter, words)
+    }
+
+    // The same for any entries. Where they have keys the frames are looked at first, as the size of the filter goes by their number.
+    fn read_room(self, image: &[u8]) -> Result<Pass, Refusal>
+        requires { self.start ≤ self.end }
+        ensures { result ≡ ending_of self.format self.edition (walked self.format image.now self.start self.end) self.start }
+    {
+        if !is_keyed(self.format) {
+            return self.read_with(image, 0);
+        }
+        let pass = self.walk_on(image, false, self.start, 0, Ok(()))?;
+        self.read_with(image, keys::filter_words(self.format, pass.count))
+    }
+
+    // The room that an image's entries take, or the image's refusal.
+    fn take_room(self, image: &[u8]) -> Result<Room, Refusal>
+        requires { (self.start ≤ self.end) × (self.end ≤ 65536) }
+        ensures { result ≡ room_taken (read_walked (walked self.format image.now self.start self.end) self.format self.edition image.now self.start self.end) self.end }
+    {
+        let pass = self.read_room(image)?;
+        if !frames::is_filled(self.format, pass.over, self.end) {
+            return Err(Refusal::at(5, 9));
+        }
+        if !frames::is_sealed(self.format, image, pass.over) {
+            return Err(Refusal::at(10, pass.over + closing_length(self.format)));
+        }
+        pass.judgement?;
+        Ok(Room {
+            format: self.format,
+            start: self.start,
+            end: self.end,
+            over: pass.over,
+            count: pass.count,
+        })
     }
 }
 
 // The image, or its refusal: 16, 1, 2, its header's, 5, 6 and 9, what its format asks of its room, then 10, 7 and 8, 11.
-pub fn take_image(format: u32, edition: u32, image: &[u8]) -> Taken
+pub fn take_image(format: u32, edition: u32, image: &[u8]) -> Result<Room, Refusal>
     ensures { result ≡ taken format edition image.now }
 {
-    let c = frames::choose(format, edition);
-    match c {
-        Chosen::Unknown(k) => refused(k, 0),
-        Chosen::Known(f) => {
-            if 65536 < image.len() {
-                return refused(2, 0);
-            }
-            let o = frames::open_image(f, image);
-            match o {
-                Opened::Closed(r) => Taken::Isnt(r),
-                Opened::Room(start, end) => take_room(f, edition, image, start, end),
-            }
-        }
+    let format = frames::choose(format, edition)?;
+    if 65536 < image.len() {
+        return Err(Refusal::from(2));
     }
+    let (start, end) = frames::open_image(format, image)?;
+    let span = Span {
+        format,
+        edition,
+        start,
+        end,
+    };
+    span.take_room(image)
 }

@@ -9,18 +9,14 @@ use lib.ListN.{length, get_or, take, drop, replicate, length-append, length-repl
 use lib.Seq.{take_at, drop_at, get_or-take, get_or-append-add}
 use lib.Dec.{leb, eqb}
 use borrow.Author.Tests.{eqb-true, le-leb}
+use Rattle.std.specs.Prelude.{Ok, Err}
 use Rattle.layout.specs.declared.Format.{Format}
 use Rattle.layout.specs.declared.Entry.{Entry}
 use Rattle.layout.specs.declared.Field.{Field}
 use Rattle.layout.specs.declared.Part.{Part}
 use Rattle.layout.specs.declared.Place.{Place}
 use Rattle.layout.specs.declared.Reading.{Reading}
-use Rattle.layout.specs.declared.Checked.{Checked}
-use Rattle.layout.specs.declared.Checked.TheVariants.{Accepted, Refused}
-use Rattle.layout.specs.declared.Made.{Made}
-use Rattle.layout.specs.declared.Made.TheVariants.{Wrote}
-use Rattle.layout.specs.declared.Lookup.{Lookup}
-use Rattle.layout.specs.declared.Lookup.TheVariants.{Found, Missing}
+use Rattle.layout.specs.Answers.{Checked, Made, Lookup}
 use Rattle.layout.specs.Bytes.{if, between, all, one_of, part, part_at}
 use Rattle.layout.specs.Walk.{Content}
 use Rattle.layout.specs.Calls.{Told, told_refusal, told_checked, told_lookup, told_reading, check_image, entry_at, moved, step_from}
@@ -98,11 +94,11 @@ one_more x numbers answer h = go (eqb (number_of answer) 0) (eqb (number_of answ
 -- 12, or what the entry tells
 recorded-one : (e : ℕ) (x : Lookup) (m : List ℕ) → OneOf (13 ∷ image_numbers) (packed (told_lookup x)) → OneOf (12 ∷ 13 ∷ image_numbers) (recorded e x m).answer
 unfolding one_of packed
-recorded-one e (Missing r) m h = one_more 12 (13 ∷ image_numbers) (packed (told_refusal r)) h
-recorded-one e (Found x) m h = go (leb 64 (length m)) refl
+recorded-one e (Err r) m h = one_more 12 (13 ∷ image_numbers) (packed (told_refusal r)) h
+recorded-one e (Ok x) m h = go (leb 64 (length m)) refl
   where
-    go : (b : Bool) → leb 64 (length m) ≡ b → OneOf (12 ∷ 13 ∷ image_numbers) (recorded e (Found x) m).answer
-    go true q = rw q (one_more 12 (13 ∷ image_numbers) (packed (told_lookup (Found x))) h)
+    go : (b : Bool) → leb 64 (length m) ≡ b → OneOf (12 ∷ 13 ∷ image_numbers) (recorded e (Ok x) m).answer
+    go true q = rw q (one_more 12 (13 ∷ image_numbers) (packed (told_lookup (Ok x))) h)
     go false q = rw q
 
 pub numbers-from-c : NumbersFromC
@@ -182,13 +178,13 @@ module _ (f e : ℕ) (image : List ℕ) (z : number_of (check_call f e image) �
   check-counts = go (check_image f e image) refl (checked-in f e image) (gives-zero image_numbers (tells_check f e image) refl (call-numbers.checked f e image) z)
     where
       go : (x : Checked) → check_image f e image ≡ x → CheckedIn x → (tells_check f e image).number ≡ 0 → (n : ℕ) × Counts (tells_check f e image) n
-      go (Accepted n) q l y = (n, ap told_checked q)
-      go (Refused r) q l y = absurd (omega (arith, rw q at y, tabled image_numbers r.number refl l.number))
+      go (Ok n) q l y = (n, ap told_checked q)
+      go (Err r) q l y = absurd (omega (arith, rw q at y, tabled image_numbers r.number refl l.number))
 
 -- the length of an image that was made is taken out whole
-made-counts : (numbers : List ℕ) (most : ℕ) (x : Made) (n : ℕ) → x ≡ Wrote n → MadeLow numbers most x → count_of (packed (told_made x)) ≡ n
+made-counts : (numbers : List ℕ) (most : ℕ) (x : Made) (n : ℕ) → x ≡ Ok n → MadeLow numbers most x → count_of (packed (told_made x)) ≡ n
 made-counts numbers most x n q l =
-    let l' : MadeLow numbers most (Wrote n) = rw q at l in
+    let l' : MadeLow numbers most (Ok n) = rw q at l in
     rw q ((whole-told n (part_at 0 0) [] (omega arith) (omega arith)).count refl)
 
 pub made-taken : (numbers : List ℕ) (most : ℕ) → all (between 1 23) numbers ≡ true → (x : Made) → MadeLow numbers most x → number_of (packed (told_made x)) ≡ 0 →

@@ -9,14 +9,13 @@ use lib.ListN.{length, get_or, take, drop, length-append, length-drop, get_or-ap
 use lib.Seq.{take_at, drop_at, drop-append-add, get_or-take, length-take-le}
 use lib.Dec.{leb}
 use borrow.Author.Tests.{leb-true, le-leb, lt-leb}
+use Rattle.std.specs.Prelude.{Ok, Err}
 use Rattle.layout.specs.declared.Format.{Format}
 use Rattle.layout.specs.declared.Entry.{Entry}
 use Rattle.layout.specs.declared.Refusal.{Refusal}
-use Rattle.layout.specs.declared.Lookup.{Lookup}
-use Rattle.layout.specs.declared.Lookup.TheVariants.{Found, Missing}
+use Rattle.layout.specs.Answers.{Lookup}
 use Rattle.layout.specs.Bytes.{if, all, part, part_at, refusal}
 use Rattle.layout.specs.Editions.{shape, chosen}
-use Rattle.layout.specs.declared.Checked.TheVariants.{Accepted, Refused}
 use Rattle.layout.specs.Walk.{Raw}
 use Rattle.layout.specs.Read.{limit, Read, accepted, refused, read_image}
 use Rattle.layout.specs.Calls.{Told, told, told_refusal, told_checked, told_lookup, checked_by, check_image, Listed, fill, listed_by, list_entries, entries_of, entries_by, entries_in, nth, found_by, entry_at, moved, step_from}
@@ -59,31 +58,31 @@ module _ (e : ℕ) (x : Lookup) (m : List ℕ) where
   recorded-kept : RefusedAnswer (recorded e x m).answer → (recorded e x m).memory ≡ m
   recorded-kept r = go x r
     where
-      room : (y : Entry) (b : Bool) → let g = if {A = Given} b (λ _. record { answer = packed (told_lookup (Found y)); memory = record_bytes e y ++ drop 64 m }) (λ _. kept (refusal 12 0) m) in
+      room : (y : Entry) (b : Bool) → let g = if {A = Given} b (λ _. record { answer = packed (told_lookup (Ok y)); memory = record_bytes e y ++ drop 64 m }) (λ _. kept (refusal 12 0) m) in
           RefusedAnswer g.answer → g.memory ≡ m
-      room y true r = absurd (r (packed-taken (told_lookup (Found y)) refl))
+      room y true r = absurd (r (packed-taken (told_lookup (Ok y)) refl))
       room y false r = refl
 
       go : (x : Lookup) → RefusedAnswer (recorded e x m).answer → (recorded e x m).memory ≡ m
-      go (Found y) r = room y (leb 64 (length m)) r
-      go (Missing q) r = refl
+      go (Ok y) r = room y (leb 64 (length m)) r
+      go (Err q) r = refl
 
 never-given : {A : Type 0} (r : Refusal) (y : Entry) → told_refusal r ≡ given y → A
 never-given r y q = let z : ◌≡◌ {A = ℕ} 0 1 = ap (λ (t : Told). t.count) q in absurd (omega arith)
 
-given-same : (x y : Entry) → told_lookup (Found x) ≡ given y → x ≡ y
+given-same : (x y : Entry) → told_lookup (Ok x) ≡ given y → x ≡ y
 given-same x y q = let z : (x ∷ []) ≡ (y ∷ []) = ap (λ (t : Told). t.given) q in cc
 
 recorded-answers : (e : ℕ) (x : Lookup) (m : List ℕ) → Answers (told_lookup x) m (recorded e x m).answer
-recorded-answers e (Found y) m =
+recorded-answers e (Ok y) m =
     record { whole = λ le. rw (le-leb 64 (length m) le); refused = λ h. absurd (h refl); short = λ x lt q. rw (lt-leb 64 (length m) lt) }
-recorded-answers e (Missing r) m = record { whole = λ le. refl; refused = λ h. refl; short = λ x lt q. never-given r x q }
+recorded-answers e (Err r) m = record { whole = λ le. refl; refused = λ h. refl; short = λ x lt q. never-given r x q }
 
 -- the record that an entry or a step leaves
 record-stands : (e : ℕ) (x : Lookup) (y : Entry) (m : List ℕ) → 64 ≤ length m → told_lookup x ≡ given y →
     (take 64 (recorded e x m).memory ≡ record_bytes e y) × (drop 64 (recorded e x m).memory ≡ drop 64 m)
-record-stands e (Missing r) y m le q = never-given r y q
-record-stands e (Found x) y m le q =
+record-stands e (Err r) y m le q = never-given r y q
+record-stands e (Ok x) y m le q =
     rw (le-leb 64 (length m) le, ← given-same x y q)
     (take_at (record_bytes e x) (drop 64 m) 64 (length-record e x), drop_at (record_bytes e x) (drop 64 m) 64 (length-record e x))
 
@@ -91,20 +90,20 @@ record-stands e (Found x) y m le q =
 
 -- a step leaves answer and record as the entry call does
 pub stepped-recorded : (x : Lookup) (n : ℕ) (w m : List ℕ) → ((stepped_to x n w m).answer ≡ (recorded (walk_edition w) x m).answer) × ((stepped_to x n w m).memory ≡ (recorded (walk_edition w) x m).memory)
-stepped-recorded (Missing r) n w m = (refl, refl)
-stepped-recorded (Found x) n w m = room (leb 64 (length m)) refl
+stepped-recorded (Err r) n w m = (refl, refl)
+stepped-recorded (Ok x) n w m = room (leb 64 (length m)) refl
   where
     room : (b : Bool) → leb 64 (length m) ≡ b →
-        ((stepped_to (Found x) n w m).answer ≡ (recorded (walk_edition w) (Found x) m).answer) × ((stepped_to (Found x) n w m).memory ≡ (recorded (walk_edition w) (Found x) m).memory)
+        ((stepped_to (Ok x) n w m).answer ≡ (recorded (walk_edition w) (Ok x) m).answer) × ((stepped_to (Ok x) n w m).memory ≡ (recorded (walk_edition w) (Ok x) m).memory)
     room true e = (rw e, rw e)
     room false e = (rw e, rw e)
 
 stepped_kept : (x : Lookup) (n : ℕ) (w m : List ℕ) → RefusedAnswer (stepped_to x n w m).answer → (stepped_to x n w m).walk ≡ w
-stepped_kept (Missing r) n w m q = refl
-stepped_kept (Found x) n w m q = room (leb 64 (length m)) refl
+stepped_kept (Err r) n w m q = refl
+stepped_kept (Ok x) n w m q = room (leb 64 (length m)) refl
   where
-    room : (b : Bool) → leb 64 (length m) ≡ b → (stepped_to (Found x) n w m).walk ≡ w
-    room true e = absurd (q (rw e (packed-taken (told_lookup (Found x)) refl)))
+    room : (b : Bool) → leb 64 (length m) ≡ b → (stepped_to (Ok x) n w m).walk ≡ w
+    room true e = absurd (q (rw e (packed-taken (told_lookup (Ok x)) refl)))
     room false e = rw e
 
 -- a walk with another entry number, below 2^32, is read back whole
@@ -158,36 +157,36 @@ listed_kept (accepted g start rs) e m q = room (leb (length (entries_of (shape g
 
 -- ---- an entry that is found
 
-nth-few : (xs : List Entry) (k : ℕ) (x : Entry) → nth xs k ≡ Found x → k < length xs
+nth-few : (xs : List Entry) (k : ℕ) (x : Entry) → nth xs k ≡ Ok x → k < length xs
 unfolding nth
 nth-few [] k x q = let z : ◌≡◌ {A = ℕ} 0 1 = cc in absurd (omega arith)
 nth-few (y ∷ xs) zero x q = omega arith
 nth-few (y ∷ xs) (suc k) x q = let h = nth-few xs k x q in omega arith
 
 -- its number is below that of the image's bytes
-found-few : (f e : ℕ) (img : List ℕ) (n : ℕ) (x : Entry) → entry_at f e img n ≡ Found x → n < 65536
+found-few : (f e : ℕ) (img : List ℕ) (n : ℕ) (x : Entry) → entry_at f e img n ≡ Ok x → n < 65536
 unfolding entry_at entries_in
 found-few f e img n x q = go (read_image f e img) q (entries-few f e img)
   where
-    go : (y : Read) → found_by y e n ≡ Found x → length (entries_by y e) ≤ limit → n < 65536
+    go : (y : Read) → found_by y e n ≡ Ok x → length (entries_by y e) ≤ limit → n < 65536
     go (accepted g start rs) q few = let h = nth-few (entries_of (shape g) e start rs) n x q in omega arith
     go (refused r) q few = let z : ◌≡◌ {A = ℕ} 0 1 = cc in absurd (omega arith)
 
 -- a walk that is cut short is read as format 0, whose step is refused
-walk-whole : (w img : List ℕ) (x : Entry) → entry_at (walk_format w) (walk_edition w) img (walk_entry w) ≡ Found x → 16 ≤ length w
+walk-whole : (w img : List ℕ) (x : Entry) → entry_at (walk_format w) (walk_edition w) img (walk_entry w) ≡ Ok x → 16 ≤ length w
 unfolding entry_at read_image chosen
 walk-whole w img x q = go (leb 16 (length w)) refl
   where
     go : (b : Bool) → leb 16 (length w) ≡ b → 16 ≤ length w
     go true t = leb-true 16 (length w) t
-    go false t = let c : Missing (refusal 16 0) ≡ Found x = rw t at q in let z : ◌≡◌ {A = ℕ} 0 1 = cc in absurd (omega arith)
+    go false t = let c : Err (refusal 16 0) ≡ Ok x = rw t at q in let z : ◌≡◌ {A = ℕ} 0 1 = cc in absurd (omega arith)
 
 no_room : number_of (packed (told_refusal (refusal 12 0))) ≡ 0 → ⊥
 unfolding packed
 no_room z = omega arith
 
 -- no refusal of an entry is taken for an answer
-entry-some : (f e : ℕ) (img : List ℕ) (n : ℕ) (r : Refusal) → entry_at f e img n ≡ Missing r → number_of (packed (told_refusal r)) ≡ 0 → ⊥
+entry-some : (f e : ℕ) (img : List ℕ) (n : ℕ) (r : Refusal) → entry_at f e img n ≡ Err r → number_of (packed (told_refusal r)) ≡ 0 → ⊥
 unfolding all
 entry-some f e img n r q z =
     let number : number_of (packed (told_refusal r)) ≡ r.number = rw q at (whole-reads.entry f e img n).number in
@@ -198,18 +197,18 @@ step-onward : (w img m : List ℕ) → (x : Lookup) → entry_at (walk_format w)
     number_of (stepped_to x (moved (walk_entry w) x) w m).answer ≡ 0 →
     let walk = (stepped_to x (moved (walk_entry w) x) w m).walk in
     (walk_format walk ≡ walk_format w) × (walk_edition walk ≡ walk_edition w) × (walk_entry walk ≡ walk_entry w + 1) × (drop 16 walk ≡ drop 16 w)
-step-onward w img m (Found x) q true t z =
+step-onward w img m (Ok x) q true t z =
     let few = found-few (walk_format w) (walk_edition w) img (walk_entry w) x q in
     rw t (walk-back w (walk_entry w + 1) (walk-whole w img x q) (omega arith))
-step-onward w img m (Found x) q false t z = absurd (no_room (rw t at z))
-step-onward w img m (Missing r) q b t z = absurd (entry-some (walk_format w) (walk_edition w) img (walk_entry w) r q z)
+step-onward w img m (Ok x) q false t z = absurd (no_room (rw t at z))
+step-onward w img m (Err r) q b t z = absurd (entry-some (walk_format w) (walk_edition w) img (walk_entry w) r q z)
 
 pub lists-read : (f e : ℕ) (img : List ℕ) (entries : List Entry) → Lists f e img entries → Listing f e img entries
 unfolding list_entries check_image
 lists-read f e img entries l = go (read_image f e img) refl (l entries (omega arith))
   where
     filled : (g : Format) (start : ℕ) (rs : List Raw) → read_image f e img ≡ accepted g start rs → let es = entries_of (shape g) e start rs in
-        (b : Bool) → let x = if {A = Listed} b (λ _. record { answer = Accepted (length es); records = es ++ drop (length es) entries }) (λ _. record { answer = Refused (refusal 12 0); records = entries }) in
+        (b : Bool) → let x = if {A = Listed} b (λ _. record { answer = Ok (length es); records = es ++ drop (length es) entries }) (λ _. record { answer = Err (refusal 12 0); records = entries }) in
         Counts (told_checked x.answer) (length entries) × (x.records ≡ entries ++ drop (length entries) entries) → Listing f e img entries
     filled g start rs q true y =
         let es = entries_of (shape g) e start rs in
@@ -221,8 +220,8 @@ lists-read f e img entries l = go (read_image f e img) refl (l entries (omega ar
         Listing f e img entries
     go (accepted g start rs) q y = filled g start rs q (leb (length (entries_of (shape g) e start rs)) (length entries)) y
     go (refused r) q y =
-        let c : check_image f e img ≡ Accepted (length entries) = counts-accepted f e img (length entries) (rw q y.0) in
-        let c' : checked_by (refused r) ≡ Accepted (length entries) = rw q at c in
+        let c : check_image f e img ≡ Ok (length entries) = counts-accepted f e img (length entries) (rw q y.0) in
+        let c' : checked_by (refused r) ≡ Ok (length entries) = rw q at c in
         let z : ◌≡◌ {A = ℕ} 0 1 = cc in
         absurd (omega arith)
 

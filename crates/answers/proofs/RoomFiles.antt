@@ -5,9 +5,9 @@ use mathlib.Core.Path.{◌≡◌, refl, ap, sym, ◌∙◌}
 use mathlib.Core.List.{List, [], ◌∷◌}
 use mathlib.Core.Bool.{true}
 use native.Mathlib.Omega.{arith}
+use Rattle.std.specs.Prelude.{Ok, Err}
 use Rattle.layout.specs.declared.Part.{Part}
-use Rattle.layout.specs.declared.Located.{Located}
-use Rattle.layout.specs.declared.Located.TheVariants.{At, Nowhere}
+use Rattle.layout.specs.Answers.{Located}
 use Rattle.layout.specs.Bytes.{between, all}
 use Rattle.layout.specs.Calls.{Told, told, told_located}
 use Rattle.records.specs.Packed.{packed}
@@ -37,8 +37,8 @@ whole-change n x c form e file out = made-whole (change_numbers x) farthest_in_f
 
 located-whole : (x : Located) → FetchedLow x → Whole (told_located x)
 unfolding all
-located-whole (At x) l = whole-told x.len x [] (omega arith) (omega arith)
-located-whole (Nowhere r) l = whole-refusal (21 ∷ 22 ∷ image_numbers) farthest_in_file r refl (omega arith) l
+located-whole (Ok x) l = whole-told x.len x [] (omega arith) (omega arith)
+located-whole (Err r) l = whole-refusal (21 ∷ 22 ∷ image_numbers) farthest_in_file r refl (omega arith) l
 
 whole-fetch : (form e : ℕ) (file : List ℕ) (n : ℕ) → Whole (tells_fetch form e file n)
 whole-fetch form e file n = located-whole (fetch_board form e file n) (fetch-low form e file n)
@@ -94,11 +94,11 @@ module _ (form e : ℕ) (file : List ℕ) (n : ℕ) where
   fetched by z = go (fetch_board form e file n) refl (fetch-low form e file n)
     where
       go : (y : Located) → fetch_board form e file n ≡ y → FetchedLow y → Held form e file n (fetched_bytes (room_fetch_call form e file n) file)
-      go (At x) q l =
+      go (Ok x) q l =
           let t : tells_fetch form e file n ≡ told x.len x [] = ap told_located q in
           let y = told_part x t in
           rw (y.1, y.2) (held-part form e file n x by t)
-      go (Nowhere r) q l =
+      go (Err r) q l =
           let some = tabled (21 ∷ 22 ∷ image_numbers) r.number fetch-table l.number in
           let none : r.number ≡ 0 = ap (λ (t : Told). t.number) (sym (ap told_located q)) ∙ sym (whole-fetch form e file n).number ∙ z in
           absurd (omega (arith, some.0, none))

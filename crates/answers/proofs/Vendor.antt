@@ -10,14 +10,14 @@ use lib.Seq.{drop_at}
 use lib.IntN.{ℤ, pos, negsuc}
 use lib.Dec.{leb}
 use borrow.Author.Tests.{lt-ltb, le-ltb, lt-leb, le-leb}
+use Rattle.std.specs.Prelude.{Ok, Err}
 use Rattle.layout.specs.Bytes.{if, all, one_of, part_at, refusal}
 use Rattle.layout.specs.Calls.{told_refusal}
 use Rattle.layout.specs.Write.{word}
 use Rattle.layout.specs.Each.{Each, none}
 use Rattle.blocks.specs.declared.Offsets.{Offsets}
 use Rattle.blocks.specs.declared.Block.{Block}
-use Rattle.blocks.specs.declared.Vended.{Vended}
-use Rattle.blocks.specs.declared.Vended.TheVariants.{Tells, Unread}
+use Rattle.blocks.specs.Answers.{Vended}
 use Rattle.blocks.specs.Offset.{signed, signed_byte}
 use Rattle.blocks.specs.Vendor.{read_vendor, told_vended, pieces_in, write_vendor}
 use Rattle.records.specs.Packed.{packed}
@@ -46,8 +46,8 @@ use Rattle.answers.proofs.FromC.{gives_one, items-in-back}
 
 vended-whole : (x : Vended) → VendedLow x → Whole (told_vended x)
 unfolding all
-vended-whole (Tells n b) l = whole-told n (part_at 0 0) [] (omega (arith, l.0)) (omega arith)
-vended-whole (Unread r) l = whole-refusal read_numbers farthest r refl (omega arith) l
+vended-whole (Ok (n, b)) l = whole-told n (part_at 0 0) [] (omega (arith, l.0)) (omega arith)
+vended-whole (Err r) l = whole-refusal read_numbers farthest r refl (omega arith) l
 
 -- ---- a block
 
@@ -116,30 +116,30 @@ abbrev lends : Bool → Vended → List ℕ → List ℕ → List ℕ → Vendor
 lends b x payload buffer m = if b (λ _. vendor_given x payload m) (λ _. ungiven (unlent x) buffer m)
 
 given-answer : (x : Vended) (payload m : List ℕ) → (vendor_given x payload m).answer ≡ packed (told_vended x)
-given-answer (Tells n b) payload m = refl
-given-answer (Unread r) payload m = refl
+given-answer (Ok (n, b)) payload m = refl
+given-answer (Err r) payload m = refl
 
 lends_one : (t : Bool) (x : Vended) (payload buffer m : List ℕ) → OneOf read_numbers (packed (told_vended x)) → OneOf read_numbers (lends t x payload buffer m).answer
 unfolding one_of packed
 lends_one true x payload buffer m h = rw (given-answer x payload m) h
-lends_one false (Tells n b) payload buffer m h = refl
-lends_one false (Unread r) payload buffer m h = h
+lends_one false (Ok (n, b)) payload buffer m h = refl
+lends_one false (Err r) payload buffer m h = h
 
 lends-kept : (t : Bool) (x : Vended) (payload buffer m : List ℕ) → (IsRefused (told_vended x) → payload ≡ buffer) →
     let g = lends t x payload buffer m in RefusedAnswer g.answer → (g.payload ≡ buffer) × (g.block ≡ m)
-lends-kept true (Tells n b) payload buffer m same r = absurd (r (packed-taken (told_vended (Tells n b)) refl))
-lends-kept true (Unread q) payload buffer m same r = (same (is-refused (told_refusal q) r), refl)
+lends-kept true (Ok (n, b)) payload buffer m same r = absurd (r (packed-taken (told_vended (Ok (n, b))) refl))
+lends-kept true (Err q) payload buffer m same r = (same (is-refused (told_refusal q) r), refl)
 lends-kept false x payload buffer m same r = (refl, refl)
 
 lends-refused : (t : Bool) (x : Vended) (payload buffer m : List ℕ) → IsRefused (told_vended x) → (lends t x payload buffer m).answer ≡ packed (told_vended x)
 lends-refused true x payload buffer m h = given-answer x payload m
-lends-refused false (Tells n b) payload buffer m h = absurd (h refl)
-lends-refused false (Unread r) payload buffer m h = refl
+lends-refused false (Ok (n, b)) payload buffer m h = absurd (h refl)
+lends-refused false (Err r) payload buffer m h = refl
 
 lends-short : (x : Vended) (payload buffer m : List ℕ) → VendedLow x → (told_vended x).number ≡ 0 → (lends false x payload buffer m).answer ≡ packed (told_refusal (refusal 12 0))
 unfolding all
-lends-short (Tells n b) payload buffer m l z = refl
-lends-short (Unread r) payload buffer m l z = absurd (omega (arith, z, tabled read_numbers r.number refl l.number))
+lends-short (Ok (n, b)) payload buffer m l z = refl
+lends-short (Err r) payload buffer m l z = absurd (omega (arith, z, tabled read_numbers r.number refl l.number))
 
 vendor-lent : (f e : ℕ) (img buffer m : List ℕ) → VendorLent f e img buffer m
 unfolding vendor_read_call
@@ -151,7 +151,7 @@ vendor-lent f e img buffer m =
       refused = lends-refused (leb 48 (length m)) x payload buffer m;
       short = λ lt z. rw (lt-leb 48 (length m) lt) (lends-short x payload buffer m (read_low f e img buffer) z);
       gives = λ n b le q.
-          let l : VendedLow (Tells n b) = rw q at (read_low f e img buffer) in
+          let l : VendedLow (Ok (n, b)) = rw q at (read_low f e img buffer) in
           rw (le-leb 48 (length m) le, q) (refl, says-block n b l.0 l.1 (drop 48 m), drop_at (block_bytes b) (drop 48 m) 48 (length-block b));
     }
 

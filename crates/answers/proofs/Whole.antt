@@ -6,14 +6,8 @@ use mathlib.Core.List.{List, [], ◌∷◌}
 use mathlib.Core.Bool.{true}
 use native.Mathlib.Omega.{arith}
 use lib.ListN.{length}
-use Rattle.layout.specs.declared.Checked.{Checked}
-use Rattle.layout.specs.declared.Checked.TheVariants.{Accepted, Refused}
-use Rattle.layout.specs.declared.Lookup.{Lookup}
-use Rattle.layout.specs.declared.Lookup.TheVariants.{Found, Missing}
-use Rattle.layout.specs.declared.Located.{Located}
-use Rattle.layout.specs.declared.Located.TheVariants.{At, Nowhere}
-use Rattle.layout.specs.declared.Made.{Made}
-use Rattle.layout.specs.declared.Made.TheVariants.{Wrote, Unwritten}
+use Rattle.std.specs.Prelude.{Ok, Err}
+use Rattle.layout.specs.Answers.{Checked, Lookup, Located, Made}
 use Rattle.layout.specs.declared.Refusal.{Refusal}
 use Rattle.layout.specs.Bytes.{between, all, one_of, part_at, refusal}
 use Rattle.layout.specs.Calls.{told_refusal, told_checked, told_lookup, told_located, entries_in, check_image, entry_at, value_at, string_at}
@@ -38,21 +32,21 @@ refusal-whole numbers r table l = whole-refusal numbers farthest r table (omega 
 
 checked-whole : (x : Checked) → CheckedIn x → Whole (told_checked x)
 unfolding all
-checked-whole (Accepted n) l = whole-told n (part_at 0 0) [] (omega arith) (omega arith)
-checked-whole (Refused r) l = refusal-whole image_numbers r refl l
+checked-whole (Ok n) l = whole-told n (part_at 0 0) [] (omega arith) (omega arith)
+checked-whole (Err r) l = refusal-whole image_numbers r refl l
 
 lookup-whole : (x : Lookup) → LookupIn x → Whole (told_lookup x)
 unfolding all
-lookup-whole (Found x) l = whole-told 1 (part_at 0 0) _ (omega arith) (omega arith)
-lookup-whole (Missing r) l = refusal-whole (13 ∷ image_numbers) r refl l
+lookup-whole (Ok x) l = whole-told 1 (part_at 0 0) _ (omega arith) (omega arith)
+lookup-whole (Err r) l = refusal-whole (13 ∷ image_numbers) r refl l
 
 located-whole : (number : ℕ) (x : Located) → all (between 1 23) (number ∷ image_numbers) ≡ true → LocatedIn number x → Whole (told_located x)
-located-whole number (At x) table l = whole-told x.len x [] (omega arith) (omega arith)
-located-whole number (Nowhere r) table l = refusal-whole (number ∷ image_numbers) r table l
+located-whole number (Ok x) table l = whole-told x.len x [] (omega arith) (omega arith)
+located-whole number (Err r) table l = refusal-whole (number ∷ image_numbers) r table l
 
 pub made-whole : (numbers : List ℕ) (most : ℕ) (x : Made) → all (between 1 23) numbers ≡ true → most < 576460752303423488 → MadeLow numbers most x → Whole (told_made x)
-made-whole numbers most (Wrote n) table lt l = whole-told n (part_at 0 0) [] (omega arith) (omega arith)
-made-whole numbers most (Unwritten r) table lt l = whole-refusal numbers most r table lt l
+made-whole numbers most (Ok n) table lt l = whole-told n (part_at 0 0) [] (omega arith) (omega arith)
+made-whole numbers most (Err r) table lt l = whole-refusal numbers most r table lt l
 
 -- ---- the calls
 

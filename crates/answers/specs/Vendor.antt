@@ -1,13 +1,12 @@
 -- Vendor blocks as C sees them (docs/C-INTERFACE.md): the packed answer, the block's words, the words of offsets and of piece lengths, and what stays.
 -- Assumes nothing.
-use Rattle.std.specs.Prelude.{ℕ, ◌+◌, ◌*◌, ◌-◌, ◌≤◌, ◌<◌, ◌≡◌, List, [], ◌∷◌, ◌++◌, length, drop, ℤ, pos, negsuc, ltb}
+use Rattle.std.specs.Prelude.{ℕ, ◌+◌, ◌*◌, ◌-◌, ◌≤◌, ◌<◌, ◌≡◌, List, [], ◌∷◌, ◌++◌, length, drop, ℤ, pos, negsuc, ltb, Ok}
 use Rattle.layout.specs.Bytes.{if, refusal}
 use Rattle.layout.specs.Calls.{told_refusal}
 use Rattle.layout.specs.Write.{word}
 use Rattle.layout.specs.Each.{Each}
 use Rattle.blocks.specs.declared.Offsets.{Offsets}
 use Rattle.blocks.specs.declared.Block.{Block}
-use Rattle.blocks.specs.declared.Vended.TheVariants.{Tells}
 use Rattle.blocks.specs.Offset.{signed_byte}
 use Rattle.blocks.specs.Vendor.{read_vendor, write_vendor}
 use Rattle.records.specs.Packed.{packed}
@@ -48,7 +47,7 @@ pub record VendorLent (f e : ℕ) (img buffer m : List ℕ) : Type 0 where
   pub refused : IsRefused (tells_vendor f e img buffer) → (vendor_read_call f e img buffer m).answer ≡ packed (tells_vendor f e img buffer)
   pub short : length m < 48 → (tells_vendor f e img buffer).number ≡ 0 → (vendor_read_call f e img buffer m).answer ≡ packed (told_refusal (refusal 12 0))
   -- where a block is lent and nothing is refused, the buffer is the call's, the block stands in the first 48 bytes, and the bytes past it stay
-  pub gives : (n : ℕ) (b : Block) → 48 ≤ length m → (read_vendor f e img buffer).answer ≡ Tells n b →
+  pub gives : (n : ℕ) (b : Block) → 48 ≤ length m → (read_vendor f e img buffer).answer ≡ Ok (n, b) →
       ((vendor_read_call f e img buffer m).payload ≡ (read_vendor f e img buffer).memory)
       × SaysBlock (vendor_read_call f e img buffer m).block b
       × (drop 48 (vendor_read_call f e img buffer m).block ≡ drop 48 m)

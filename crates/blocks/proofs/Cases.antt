@@ -7,10 +7,10 @@ use mathlib.Core.List.{List, [], ◌∷◌, ◌++◌, map}
 use mathlib.Core.Bool.{Bool}
 use lib.IntN.{ℤ, pos, negsuc}
 use lib.ListN.{length, replicate}
+use Rattle.std.specs.Prelude.{Ok, Err}
 use Rattle.crc.specs.Crc.{check32_of, mirror, check_of, byte_in, single_bit}
 use Rattle.layout.specs.declared.Refusal.{Refusal}
-use Rattle.layout.specs.declared.Made.{Made}
-use Rattle.layout.specs.declared.Made.TheVariants.{Wrote, Unwritten}
+use Rattle.layout.specs.Answers.{Made}
 use Rattle.layout.specs.Bytes.{all, one_of, same_bytes, part, part_at, refusal}
 use Rattle.layout.specs.Shape.{next, coded_head}
 use Rattle.layout.specs.Onie.{onie, onie_opened, onie_filled, onie_check, formed, onie_rule}
@@ -22,10 +22,7 @@ use Rattle.layout.specs.Write.{items, Outcome}
 use Rattle.layout.proofs.Cases.{text, hex, run, onie_of, those}
 use Rattle.blocks.specs.declared.Offsets.{Offsets}
 use Rattle.blocks.specs.declared.Block.{Block}
-use Rattle.blocks.specs.declared.Said.{Said}
-use Rattle.blocks.specs.declared.Said.TheVariants.{Says}
-use Rattle.blocks.specs.declared.Vended.{Vended}
-use Rattle.blocks.specs.declared.Vended.TheVariants.{Tells, Unread}
+use Rattle.blocks.specs.Answers.{Said, Vended}
 use Rattle.blocks.specs.Offset.{signed, signed_byte, offsets_in, offset_bytes}
 use Rattle.blocks.specs.Payload.{matches, matching, joined, measured, checked, amplifier, payload_says, payload_of, cut_into, writable}
 use Rattle.blocks.specs.Vendor.{asked, Taking, read_vendor, pieces_in, write_vendor}
@@ -90,7 +87,7 @@ abbrev pub block_said : ℕ → ℕ → Offsets → Block
 block_said n p o = record { serial = part_at 1 n; block = part_at p 9; offsets = o }
 
 abbrev pub unread : ℕ → ℕ → Vended
-unread n p = Unread (refusal n p)
+unread n p = Err (refusal n p)
 
 -- what an entry of this code and value says
 abbrev pub entry : ℕ → List ℕ → Content
@@ -99,12 +96,12 @@ entry c v = record { code = c; key = []; value = v }
 -- ---- the number of a call alone, 0 where nothing is refused, for cases over many numbers
 
 abbrev pub vended_number : Vended → ℕ
-vended_number (Tells n b) = 0
-vended_number (Unread r) = r.number
+vended_number (Ok (n, b)) = 0
+vended_number (Err r) = r.number
 
 abbrev pub made_number : Made → ℕ
-made_number (Wrote n) = 0
-made_number (Unwritten r) = r.number
+made_number (Ok n) = 0
+made_number (Err r) = r.number
 
 -- of a read into so many bytes
 abbrev pub reading : ℕ → ℕ → List ℕ → ℕ → ℕ
@@ -200,8 +197,8 @@ wanted (numbers n answer) = number answer
 wanted (sweeps bound question n answer) = bytes answer
 wanted (reads f e image buffer answer memory) = taken (record { answer = answer; memory = memory })
 wanted (writes f e serial o pieces out answer memory) = outcome (record { answer = answer; memory = memory })
-wanted (unreads f e image room answer) = taken (record { answer = Unread answer; memory = replicate room 7 })
-wanted (unwrites f e serial o pieces room answer) = outcome (record { answer = Unwritten answer; memory = replicate room 7 })
+wanted (unreads f e image room answer) = taken (record { answer = Err answer; memory = replicate room 7 })
+wanted (unwrites f e serial o pieces room answer) = outcome (record { answer = Err answer; memory = replicate room 7 })
 wanted (tells t answer) = told answer
 
 -- ---- offsets, and 003's example
@@ -237,13 +234,13 @@ cases =
     ∷ eights (hex "00 00 00 00 00 00 00 80") (offsets (pos 0) (pos 0) (pos 0) (pos 0) (pos 0) (pos 0) (pos 0) (minus 128))
     -- ---- 003's example: the payload, and what it says
     ∷ makes (text "DQ000MPW") zeros (hex "08 44 51 30 30 30 4D 50 57 00 09 00 00 00 00 00 00 00 00 00 02 60 51 4B")
-    ∷ payloads example (Says (block_said 8 11 zeros))
+    ∷ payloads example (Ok (block_said 8 11 zeros))
     -- the one FDh that 003 shows, and the two
-    ∷ reads 4 3 (onie_of (hex "FD 1D 00 00 1F 79 00 08 44 51 30 30 30 4D 50 57 00 09 00 00 00 00 00 00 00 00 00 02 60 51 4B") (hex "C4 CA CB B7")) (replicate 24 7) (Tells 24 (block_said 8 11 zeros)) example
-    ∷ reads 4 3 (onie_of (hex "FD 1C 00 00 1F 79 00 08 44 51 30 30 30 4D 50 57 00 09 00 00 00 00 00 00 00 00 00 02 60 51 FD 06 00 00 1F 79 00 4B") (hex "0F AE 02 F5")) (replicate 24 7) (Tells 24 (block_said 8 11 zeros)) example
+    ∷ reads 4 3 (onie_of (hex "FD 1D 00 00 1F 79 00 08 44 51 30 30 30 4D 50 57 00 09 00 00 00 00 00 00 00 00 00 02 60 51 4B") (hex "C4 CA CB B7")) (replicate 24 7) (Ok (24, (block_said 8 11 zeros))) example
+    ∷ reads 4 3 (onie_of (hex "FD 1C 00 00 1F 79 00 08 44 51 30 30 30 4D 50 57 00 09 00 00 00 00 00 00 00 00 00 02 60 51 FD 06 00 00 1F 79 00 4B") (hex "0F AE 02 F5")) (replicate 24 7) (Ok (24, (block_said 8 11 zeros))) example
     -- written in one piece of 24 bytes, and in two, of 23 and 1: the values that 003 shows, without code and length byte
-    ∷ writes 4 3 (text "DQ000MPW") zeros (24 ∷ []) (replicate 29 7) (Wrote 29) (hex "00 00 1F 79 00 08 44 51 30 30 30 4D 50 57 00 09 00 00 00 00 00 00 00 00 00 02 60 51 4B")
-    ∷ writes 4 3 (text "DQ000MPW") zeros (23 ∷ 1 ∷ []) (replicate 34 7) (Wrote 34) (hex "00 00 1F 79 00 08 44 51 30 30 30 4D 50 57 00 09 00 00 00 00 00 00 00 00 00 02 60 51 00 00 1F 79 00 4B")
+    ∷ writes 4 3 (text "DQ000MPW") zeros (24 ∷ []) (replicate 29 7) (Ok 29) (hex "00 00 1F 79 00 08 44 51 30 30 30 4D 50 57 00 09 00 00 00 00 00 00 00 00 00 02 60 51 4B")
+    ∷ writes 4 3 (text "DQ000MPW") zeros (23 ∷ 1 ∷ []) (replicate 34 7) (Ok 34) (hex "00 00 1F 79 00 08 44 51 30 30 30 4D 50 57 00 09 00 00 00 00 00 00 00 00 00 02 60 51 00 00 1F 79 00 4B")
     ∷ []
 
 pub every-case : map given cases ≡ map wanted cases

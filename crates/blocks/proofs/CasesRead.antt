@@ -6,9 +6,9 @@ use mathlib.Core.Path.{◌≡◌, refl}
 use mathlib.Core.List.{List, [], ◌∷◌, ◌++◌, map}
 use lib.IntN.{pos}
 use lib.ListN.{replicate}
+use Rattle.std.specs.Prelude.{Ok}
 use Rattle.layout.specs.Bytes.{part_at, refusal}
 use Rattle.layout.proofs.Cases.{hex, run, onie_of, no_entries}
-use Rattle.blocks.specs.declared.Vended.TheVariants.{Tells}
 use Rattle.blocks.specs.Vendor.{told_vended}
 use Rattle.blocks.proofs.Cases.{offsets, zeros, varied, reversed, short_with, short, example, extension, piece, block_said, unread, reading}
 use Rattle.blocks.proofs.Cases.{Case, numbers, sweeps, reads, unreads, tells, given, wanted}
@@ -24,25 +24,25 @@ single = whole example (hex "C4 CA CB B7")
 abbrev pub cases : List Case
 cases =
     -- ---- the payload in pieces: after the first byte, inside the length of the block, between the bytes of the check
-    reads 4 3 (onie_of (piece (hex "00") ++ piece (hex "00") ++ piece (hex "09 00 01 7F 80 81 FE FF 18 9C 60 FF D2 4C")) (hex "32 B8 3A 3B")) (replicate 16 7) (Tells 16 (block_said 0 3 varied)) short
-    ∷ reads 4 3 (onie_of (piece (hex "00 00") ++ piece (hex "09 00 01 7F 80 81 FE FF 18 9C") ++ piece (hex "60 FF D2 4C")) (hex "6B B8 09 A7")) (replicate 16 7) (Tells 16 (block_said 0 3 varied)) short
-    ∷ reads 4 3 (onie_of (piece (hex "00 00 09 00 01 7F 80 81 FE FF 18 9C 60") ++ piece (hex "FF") ++ piece (hex "D2 4C")) (hex "B5 6C EB 63")) (replicate 16 7) (Tells 16 (block_said 0 3 varied)) short
+    reads 4 3 (onie_of (piece (hex "00") ++ piece (hex "00") ++ piece (hex "09 00 01 7F 80 81 FE FF 18 9C 60 FF D2 4C")) (hex "32 B8 3A 3B")) (replicate 16 7) (Ok (16, (block_said 0 3 varied))) short
+    ∷ reads 4 3 (onie_of (piece (hex "00 00") ++ piece (hex "09 00 01 7F 80 81 FE FF 18 9C") ++ piece (hex "60 FF D2 4C")) (hex "6B B8 09 A7")) (replicate 16 7) (Ok (16, (block_said 0 3 varied))) short
+    ∷ reads 4 3 (onie_of (piece (hex "00 00 09 00 01 7F 80 81 FE FF 18 9C 60") ++ piece (hex "FF") ++ piece (hex "D2 4C")) (hex "B5 6C EB 63")) (replicate 16 7) (Ok (16, (block_said 0 3 varied))) short
     -- an FDh of the five bytes alone adds nothing, before, between and after
-    ∷ reads 4 3 (onie_of (piece [] ++ piece (hex "00 00 09 00 01 7F 80 81 FE FF") ++ piece [] ++ piece (hex "18 9C 60 FF D2 4C") ++ piece []) (hex "14 C2 C7 0D")) (replicate 16 7) (Tells 16 (block_said 0 3 varied)) short
+    ∷ reads 4 3 (onie_of (piece [] ++ piece (hex "00 00 09 00 01 7F 80 81 FE FF") ++ piece [] ++ piece (hex "18 9C 60 FF D2 4C") ++ piece []) (hex "14 C2 C7 0D")) (replicate 16 7) (Ok (16, (block_said 0 3 varied))) short
     -- whatever stands between: other entries, FDh of others, of four bytes, of another fifth byte, an unnamed code with the prefix
-    ∷ reads 4 3 (onie_of (hex "21 03 41 6D 70" ++ extension (hex "00 00 1F 79") ++ piece (hex "00 00 09 00 01 7F 80 81 FE FF") ++ hex "23 01 35" ++ extension (hex "00 00 1F 79 01 09") ++ hex "99 06 00 00 1F 79 00 09" ++ piece (hex "18 9C 60 FF D2 4C") ++ extension (hex "00 00 00 09 00 08") ++ hex "2A 02 00 03") (hex "61 90 4A AD")) (replicate 16 7) (Tells 16 (block_said 0 3 varied)) short
+    ∷ reads 4 3 (onie_of (hex "21 03 41 6D 70" ++ extension (hex "00 00 1F 79") ++ piece (hex "00 00 09 00 01 7F 80 81 FE FF") ++ hex "23 01 35" ++ extension (hex "00 00 1F 79 01 09") ++ hex "99 06 00 00 1F 79 00 09" ++ piece (hex "18 9C 60 FF D2 4C") ++ extension (hex "00 00 00 09 00 08") ++ hex "2A 02 00 03") (hex "61 90 4A AD")) (replicate 16 7) (Ok (16, (block_said 0 3 varied))) short
     -- in image order: the other order is another payload
     ∷ unreads 4 3 (onie_of (piece (hex "00 01 7F 80 81 FE FF 18 9C 60 FF D2 4C") ++ piece (hex "00 00 09")) (hex "D6 65 E9 51")) 16 (refusal 18 0)
     ∷ unreads 4 3 (onie_of (piece (hex "00 00 09 00") ++ piece (hex "7F") ++ piece (hex "01") ++ piece (hex "80 81 FE FF 18 9C 60 FF D2 4C")) (hex "A5 2C C1 05")) 16 (refusal 19 0)
     -- what follows the image is not looked at
-    ∷ reads 4 3 (whole short (hex "C7 18 ED 1B") ++ piece (hex "00")) (replicate 16 7) (Tells 16 (block_said 0 3 varied)) short
+    ∷ reads 4 3 (whole short (hex "C7 18 ED 1B") ++ piece (hex "00")) (replicate 16 7) (Ok (16, (block_said 0 3 varied))) short
     -- ---- what it says: serials, and each offset in its place
-    ∷ reads 4 3 (whole (hex "01 41 00 09 00 9C 18 FF FE 81 80 7F 01 D1 9F E6 C4") (hex "6F 8A 69 1D")) (replicate 17 7) (Tells 17 (block_said 1 4 reversed)) (hex "01 41 00 09 00 9C 18 FF FE 81 80 7F 01 D1 9F E6 C4")
-    ∷ reads 4 3 (whole (hex "03 00 FF 7F 00 09 00 01 02 03 04 05 06 07 08 0B 63 87 DB") (hex "71 EF 08 26")) (replicate 19 7) (Tells 19 (block_said 3 6 (offsets (pos 1) (pos 2) (pos 3) (pos 4) (pos 5) (pos 6) (pos 7) (pos 8)))) (hex "03 00 FF 7F 00 09 00 01 02 03 04 05 06 07 08 0B 63 87 DB")
+    ∷ reads 4 3 (whole (hex "01 41 00 09 00 9C 18 FF FE 81 80 7F 01 D1 9F E6 C4") (hex "6F 8A 69 1D")) (replicate 17 7) (Ok (17, (block_said 1 4 reversed))) (hex "01 41 00 09 00 9C 18 FF FE 81 80 7F 01 D1 9F E6 C4")
+    ∷ reads 4 3 (whole (hex "03 00 FF 7F 00 09 00 01 02 03 04 05 06 07 08 0B 63 87 DB") (hex "71 EF 08 26")) (replicate 19 7) (Ok (19, (block_said 3 6 (offsets (pos 1) (pos 2) (pos 3) (pos 4) (pos 5) (pos 6) (pos 7) (pos 8))))) (hex "03 00 FF 7F 00 09 00 01 02 03 04 05 06 07 08 0B 63 87 DB")
     -- ---- the buffer: longer (the bytes past the payload stay), one short, none
-    ∷ reads 4 4 single (replicate 25 7) (Tells 24 (block_said 8 11 zeros)) (example ++ hex "07")
-    ∷ reads 4 3 single (replicate 25 7) (Tells 24 (block_said 8 11 zeros)) (example ++ hex "07")
-    ∷ reads 4 3 (whole short (hex "C7 18 ED 1B")) (hex "00 01 02 03 04 05 06 07 08 09 0A 0B 0C 0D 0E 0F 10 11 12 13") (Tells 16 (block_said 0 3 varied)) (hex "00 00 09 00 01 7F 80 81 FE FF 18 9C 60 FF D2 4C 10 11 12 13")
+    ∷ reads 4 4 single (replicate 25 7) (Ok (24, (block_said 8 11 zeros))) (example ++ hex "07")
+    ∷ reads 4 3 single (replicate 25 7) (Ok (24, (block_said 8 11 zeros))) (example ++ hex "07")
+    ∷ reads 4 3 (whole short (hex "C7 18 ED 1B")) (hex "00 01 02 03 04 05 06 07 08 09 0A 0B 0C 0D 0E 0F 10 11 12 13") (Ok (16, (block_said 0 3 varied))) (hex "00 00 09 00 01 7F 80 81 FE FF 18 9C 60 FF D2 4C 10 11 12 13")
     ∷ reads 4 3 (whole short (hex "C7 18 ED 1B")) (hex "00 01 02 03 04 05 06 07 08 09 0A 0B 0C 0D 0E") (unread 12 0) (hex "00 01 02 03 04 05 06 07 08 09 0A 0B 0C 0D 0E")
     ∷ unreads 4 3 single 23 (refusal 12 0)
     ∷ unreads 4 3 single 0 (refusal 12 0)
@@ -129,8 +129,8 @@ cases =
     ∷ unreads 4 3 (onie_of [] (hex "D4 43 1C 19")) 65537 (refusal 2 0)
     ∷ numbers (reading 4 3 no_entries 65536) 17
     -- ---- what an answer says: the payload's length is the count; a refusal has its number and place
-    ∷ tells (told_vended (Tells 24 (block_said 8 11 varied))) (record { number = 0; place = 0; count = 24; part = part_at 0 0; given = [] })
-    ∷ tells (told_vended (Tells 16 (block_said 0 3 zeros))) (record { number = 0; place = 0; count = 16; part = part_at 0 0; given = [] })
+    ∷ tells (told_vended (Ok (24, (block_said 8 11 varied)))) (record { number = 0; place = 0; count = 24; part = part_at 0 0; given = [] })
+    ∷ tells (told_vended (Ok (16, (block_said 0 3 zeros)))) (record { number = 0; place = 0; count = 16; part = part_at 0 0; given = [] })
     ∷ tells (told_vended (unread 10 44)) (record { number = 10; place = 44; count = 0; part = part_at 0 0; given = [] })
     ∷ tells (told_vended (unread 17 0)) (record { number = 17; place = 0; count = 0; part = part_at 0 0; given = [] })
     ∷ []

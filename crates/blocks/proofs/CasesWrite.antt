@@ -5,7 +5,7 @@ use mathlib.Core.Path.{◌≡◌, refl}
 use mathlib.Core.List.{List, [], ◌∷◌, ◌++◌, map}
 use lib.IntN.{pos}
 use lib.ListN.{replicate}
-use Rattle.layout.specs.declared.Made.TheVariants.{Wrote, Unwritten}
+use Rattle.std.specs.Prelude.{Ok, Err}
 use Rattle.layout.specs.Bytes.{refusal}
 use Rattle.layout.proofs.Cases.{text, hex, run}
 use Rattle.blocks.specs.Vendor.{pieces_in}
@@ -35,19 +35,19 @@ cases =
     ∷ numbers (writing 4 3 (text "DQ000MPW") (pieces_in (hex "18 00 00 00 01 00 00")) 34) 0
     ∷ numbers (writing 4 3 (text "DQ000MPW") (pieces_in (hex "FF FF FF FF 19 00 00 00")) 40) 18
     -- ---- a serial, offsets and pieces: a piece of no bytes is the prefix alone
-    ∷ writes 4 3 [] zeros (16 ∷ []) (replicate 21 7) (Wrote 21) (value (hex "00 00 09 00 00 00 00 00 00 00 00 00 87 C0 ED A5"))
-    ∷ writes 4 3 [] varied (16 ∷ []) (replicate 21 7) (Wrote 21) (value short)
-    ∷ writes 4 3 (text "A") reversed (16 ∷ 1 ∷ []) (replicate 27 7) (Wrote 27) (value (hex "01 41 00 09 00 9C 18 FF FE 81 80 7F 01 D1 9F E6") ++ value (hex "C4"))
-    ∷ writes 4 3 (hex "00 FF 7F") (offsets (pos 1) (pos 2) (pos 3) (pos 4) (pos 5) (pos 6) (pos 7) (pos 8)) (6 ∷ 9 ∷ 4 ∷ []) (replicate 34 7) (Wrote 34) (value (hex "03 00 FF 7F 00 09") ++ value (hex "00 01 02 03 04 05 06 07 08") ++ value (hex "0B 63 87 DB"))
-    ∷ writes 4 3 [] varied (0 ∷ 16 ∷ 0 ∷ []) (replicate 31 7) (Wrote 31) (value [] ++ value short ++ value [])
-    ∷ writes 4 3 [] varied (2 ∷ 2 ∷ 2 ∷ 2 ∷ 2 ∷ 2 ∷ 2 ∷ 2 ∷ []) (replicate 56 7) (Wrote 56) (value (hex "00 00") ++ value (hex "09 00") ++ value (hex "01 7F") ++ value (hex "80 81") ++ value (hex "FE FF") ++ value (hex "18 9C") ++ value (hex "60 FF") ++ value (hex "D2 4C"))
-    ∷ writes 4 3 (text "DQ000MPW") varied (1 ∷ 23 ∷ []) (replicate 34 7) (Wrote 34) (value (hex "08") ++ value (hex "44 51 30 30 30 4D 50 57 00 09 00 01 7F 80 81 FE FF 18 9C E5 5F 6E A2"))
+    ∷ writes 4 3 [] zeros (16 ∷ []) (replicate 21 7) (Ok 21) (value (hex "00 00 09 00 00 00 00 00 00 00 00 00 87 C0 ED A5"))
+    ∷ writes 4 3 [] varied (16 ∷ []) (replicate 21 7) (Ok 21) (value short)
+    ∷ writes 4 3 (text "A") reversed (16 ∷ 1 ∷ []) (replicate 27 7) (Ok 27) (value (hex "01 41 00 09 00 9C 18 FF FE 81 80 7F 01 D1 9F E6") ++ value (hex "C4"))
+    ∷ writes 4 3 (hex "00 FF 7F") (offsets (pos 1) (pos 2) (pos 3) (pos 4) (pos 5) (pos 6) (pos 7) (pos 8)) (6 ∷ 9 ∷ 4 ∷ []) (replicate 34 7) (Ok 34) (value (hex "03 00 FF 7F 00 09") ++ value (hex "00 01 02 03 04 05 06 07 08") ++ value (hex "0B 63 87 DB"))
+    ∷ writes 4 3 [] varied (0 ∷ 16 ∷ 0 ∷ []) (replicate 31 7) (Ok 31) (value [] ++ value short ++ value [])
+    ∷ writes 4 3 [] varied (2 ∷ 2 ∷ 2 ∷ 2 ∷ 2 ∷ 2 ∷ 2 ∷ 2 ∷ []) (replicate 56 7) (Ok 56) (value (hex "00 00") ++ value (hex "09 00") ++ value (hex "01 7F") ++ value (hex "80 81") ++ value (hex "FE FF") ++ value (hex "18 9C") ++ value (hex "60 FF") ++ value (hex "D2 4C"))
+    ∷ writes 4 3 (text "DQ000MPW") varied (1 ∷ 23 ∷ []) (replicate 34 7) (Ok 34) (value (hex "08") ++ value (hex "44 51 30 30 30 4D 50 57 00 09 00 01 7F 80 81 FE FF 18 9C E5 5F 6E A2"))
     -- ---- the output: just enough, longer (the bytes past the values stay), one short, none
-    ∷ writes 4 3 (text "DQ000MPW") zeros (24 ∷ []) (replicate 29 7) (Wrote 29) (value example)
-    ∷ writes 4 3 (text "DQ000MPW") zeros (24 ∷ []) (replicate 30 7) (Wrote 29) (value example ++ hex "07")
-    ∷ writes 4 3 (text "DQ000MPW") zeros (23 ∷ 1 ∷ []) (replicate 36 7) (Wrote 34) (value (hex "08 44 51 30 30 30 4D 50 57 00 09 00 00 00 00 00 00 00 00 00 02 60 51") ++ value (hex "4B") ++ hex "07 07")
-    ∷ writes 4 3 [] varied (16 ∷ []) (hex "00 01 02 03 04 05 06 07 08 09 0A 0B 0C 0D 0E 0F 10 11 12 13 14 15 16") (Wrote 21) (hex "00 00 1F 79 00 00 00 09 00 01 7F 80 81 FE FF 18 9C 60 FF D2 4C 15 16")
-    ∷ writes 4 3 [] varied (16 ∷ []) (hex "00 01 02 03 04 05 06 07 08 09 0A 0B 0C 0D 0E 0F 10 11 12 13") (Unwritten (refusal 12 0)) (hex "00 01 02 03 04 05 06 07 08 09 0A 0B 0C 0D 0E 0F 10 11 12 13")
+    ∷ writes 4 3 (text "DQ000MPW") zeros (24 ∷ []) (replicate 29 7) (Ok 29) (value example)
+    ∷ writes 4 3 (text "DQ000MPW") zeros (24 ∷ []) (replicate 30 7) (Ok 29) (value example ++ hex "07")
+    ∷ writes 4 3 (text "DQ000MPW") zeros (23 ∷ 1 ∷ []) (replicate 36 7) (Ok 34) (value (hex "08 44 51 30 30 30 4D 50 57 00 09 00 00 00 00 00 00 00 00 00 02 60 51") ++ value (hex "4B") ++ hex "07 07")
+    ∷ writes 4 3 [] varied (16 ∷ []) (hex "00 01 02 03 04 05 06 07 08 09 0A 0B 0C 0D 0E 0F 10 11 12 13 14 15 16") (Ok 21) (hex "00 00 1F 79 00 00 00 09 00 01 7F 80 81 FE FF 18 9C 60 FF D2 4C 15 16")
+    ∷ writes 4 3 [] varied (16 ∷ []) (hex "00 01 02 03 04 05 06 07 08 09 0A 0B 0C 0D 0E 0F 10 11 12 13") (Err (refusal 12 0)) (hex "00 01 02 03 04 05 06 07 08 09 0A 0B 0C 0D 0E 0F 10 11 12 13")
     ∷ unwrites 4 3 (text "DQ000MPW") zeros (24 ∷ []) 28 (refusal 12 0)
     ∷ unwrites 4 3 (text "DQ000MPW") zeros (24 ∷ []) 0 (refusal 12 0)
     ∷ unwrites 4 3 (text "DQ000MPW") zeros (23 ∷ 1 ∷ []) 33 (refusal 12 0)
@@ -73,7 +73,7 @@ cases =
     ∷ unwrites 4 3 [] zeros (17 ∷ []) 40 (refusal 18 0)
     ∷ unwrites 4 3 [] zeros [] 40 (refusal 18 0)
     -- a serial of 255 bytes in pieces of 250 and 21; one of 256
-    ∷ writes 4 3 (hex "FF FF FF 00" ++ replicate 251 0) zeros (250 ∷ 21 ∷ []) (replicate 283 7) (Wrote 281) (value (hex "FF FF FF FF 00" ++ replicate 245 0) ++ value (replicate 6 0 ++ hex "00 09 00 00 00 00 00 00 00 00 00 03 EA D4 35") ++ hex "07 07")
+    ∷ writes 4 3 (hex "FF FF FF 00" ++ replicate 251 0) zeros (250 ∷ 21 ∷ []) (replicate 283 7) (Ok 281) (value (hex "FF FF FF FF 00" ++ replicate 245 0) ++ value (replicate 6 0 ++ hex "00 09 00 00 00 00 00 00 00 00 00 03 EA D4 35") ++ hex "07 07")
     ∷ unwrites 4 3 (replicate 255 0x41) zeros (250 ∷ 21 ∷ []) 280 (refusal 12 0)
     ∷ unwrites 4 3 (replicate 256 0x41) zeros (250 ∷ 22 ∷ []) 300 (refusal 18 0)
     ∷ unwrites 4 3 (replicate 256 0x41) zeros (100 ∷ 100 ∷ 72 ∷ []) 0 (refusal 18 0)

@@ -1,3 +1,4 @@
+pub mod Answers
 pub mod Offset
 pub mod Payload
 pub mod Vendor

@@ -1,14 +1,13 @@
 -- A payload over several FDh entries of an ONIE image: how it is joined, what it says, and how it is made (02, "Vendor blocks for the optics lab"; 003).
 -- Assumes nothing.
-use Rattle.std.specs.Prelude.{ℕ, ◌+◌, ◌*◌, ◌-◌, List, [], ◌∷◌, ◌++◌, Bool, ◌&&◌, length, get_or, take, drop, leb, eqb}
+use Rattle.std.specs.Prelude.{ℕ, ◌+◌, ◌*◌, ◌-◌, List, [], ◌∷◌, ◌++◌, Bool, ◌&&◌, length, get_or, take, drop, leb, eqb, Ok, Err}
 use Rattle.crc.specs.Crc.{check32_of}
 use Rattle.layout.specs.Bytes.{if, all, same_bytes, part, part_at}
 use Rattle.layout.specs.Onie.{four_bytes}
 use Rattle.layout.specs.Walk.{Content}
 use Rattle.blocks.specs.declared.Offsets.{Offsets}
 use Rattle.blocks.specs.declared.Block.{Block}
-use Rattle.blocks.specs.declared.Said.{Said}
-use Rattle.blocks.specs.declared.Said.TheVariants.{Says, Wrong}
+use Rattle.blocks.specs.Answers.{Said}
 use Rattle.blocks.specs.Offset.{offsets_in, offset_bytes}
 
 -- ---- the payload of an image
@@ -71,9 +70,9 @@ unfoldable pub payload_says : List ℕ → Said
 payload_says s =
     if (measured s)
     (λ _. if (checked s)
-    (λ _. if (amplifier s) (λ _. Says (block_of s)) (λ _. Wrong 20))
-    (λ _. Wrong 19))
-    (λ _. Wrong 18)
+    (λ _. if (amplifier s) (λ _. Ok (block_of s)) (λ _. Err 20))
+    (λ _. Err 19))
+    (λ _. Err 18)
 
 -- ---- what is written
 

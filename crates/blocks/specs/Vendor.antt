@@ -1,9 +1,8 @@
 -- The two calls for vendor blocks (02, "Vendor blocks for the optics lab").
 -- Assumes nothing.
-use Rattle.std.specs.Prelude.{ℕ, List, [], ◌∷◌, ◌++◌, map, length, drop, ltb, leb, eqb}
+use Rattle.std.specs.Prelude.{ℕ, List, [], ◌∷◌, ◌++◌, map, length, drop, ltb, leb, eqb, Ok, Err}
 use Rattle.layout.specs.declared.Refusal.{Refusal}
-use Rattle.layout.specs.declared.Chosen.{Chosen}
-use Rattle.layout.specs.declared.Chosen.TheVariants.{Known, Unknown}
+use Rattle.layout.specs.Answers.{Chosen}
 use Rattle.layout.specs.Bytes.{if, part_at, refusal}
 use Rattle.layout.specs.Editions.{chosen}
 use Rattle.layout.specs.Walk.{Content, content}
@@ -11,21 +10,18 @@ use Rattle.layout.specs.Read.{limit, Read, accepted, refused, read_image}
 use Rattle.layout.specs.Calls.{Told, told, told_refusal}
 use Rattle.layout.specs.Write.{word, items_in, Outcome, refuse, put_bytes}
 use Rattle.blocks.specs.declared.Offsets.{Offsets}
-use Rattle.blocks.specs.declared.Said.{Said}
-use Rattle.blocks.specs.declared.Said.TheVariants.{Says, Wrong}
-use Rattle.blocks.specs.declared.Vended.{Vended}
-use Rattle.blocks.specs.declared.Vended.TheVariants.{Tells, Unread}
+use Rattle.blocks.specs.Answers.{Said, Vended}
 use Rattle.blocks.specs.Payload.{matching, joined, payload_says, payload_of, cut_into, writable}
 
 -- ---- what both calls ask first
 
 abbrev pub ask_chosen : Chosen → ℕ → Chosen
-ask_chosen (Known f) lent = if (ltb limit lent) (λ _. Unknown 2) (λ _. Known f)
-ask_chosen (Unknown n) lent = Unknown n
+ask_chosen (Ok f) lent = if (ltb limit lent) (λ _. Err 2) (λ _. Ok f)
+ask_chosen (Err n) lent = Err n
 
 -- 16 for any format but 4; 1 for an unknown edition, and 16 for one that does not have the format; 2 where too many bytes are lent to be written
 unfoldable pub asked : ℕ → ℕ → ℕ → Chosen
-asked f e lent = if (eqb f 4) (λ _. ask_chosen (chosen f e) lent) (λ _. Unknown 16)
+asked f e lent = if (eqb f 4) (λ _. ask_chosen (chosen f e) lent) (λ _. Err 16)
 
 -- ---- read
 
@@ -36,15 +32,15 @@ pub record Taking : Type 0 where
 
 -- a refused read leaves the buffer as it was
 abbrev pub untaken : Refusal → List ℕ → Taking
-untaken r buffer = record { answer = Unread r; memory = buffer }
+untaken r buffer = record { answer = Err r; memory = buffer }
 
 -- the payload goes to the buffer's front, and the bytes past it stay; 12 where it does not fit
 abbrev pub taking : Said → List ℕ → List ℕ → Taking
-taking (Says b) payload buffer =
+taking (Ok b) payload buffer =
     if (leb (length payload) (length buffer))
-    (λ _. record { answer = Tells (length payload) b; memory = payload ++ drop (length payload) buffer })
+    (λ _. record { answer = Ok ((length payload), b); memory = payload ++ drop (length payload) buffer })
     (λ _. untaken (refusal 12 0) buffer)
-taking (Wrong n) payload buffer = untaken (refusal n 0) buffer
+taking (Err n) payload buffer = untaken (refusal n 0) buffer
 
 -- 17 where no entry matches; then what the payload comes to
 abbrev pub take_matching : List Content → List ℕ → Taking
@@ -57,8 +53,8 @@ take_read (accepted f start rs) buffer = take_matching (matching (map content rs
 take_read (refused r) buffer = untaken r buffer
 
 abbrev pub take_asked : Chosen → ℕ → ℕ → List ℕ → List ℕ → Taking
-take_asked (Known g) f e img buffer = take_read (read_image f e img) buffer
-take_asked (Unknown n) f e img buffer = untaken (refusal n 0) buffer
+take_asked (Ok g) f e img buffer = take_read (read_image f e img) buffer
+take_asked (Err n) f e img buffer = untaken (refusal n 0) buffer
 
 -- what both ask, of the buffer; 2 for the image and the image's own refusals; then 17 to 20, 12
 unfoldable pub read_vendor : ℕ → ℕ → List ℕ → List ℕ → Taking
@@ -66,8 +62,8 @@ read_vendor f e img buffer = take_asked (asked f e (length buffer)) f e img buff
 
 -- what the answer tells beside the block: the length of the payload, or the refusal
 abbrev pub told_vended : Vended → Told
-told_vended (Tells n b) = told n (part_at 0 0) []
-told_vended (Unread r) = told_refusal r
+told_vended (Ok (n, b)) = told n (part_at 0 0) []
+told_vended (Err r) = told_refusal r
 
 -- ---- write
 
@@ -76,9 +72,9 @@ unfoldable pub pieces_in : List ℕ → List ℕ
 pieces_in s = items_in 4 (word 0) s
 
 abbrev pub put_asked : Chosen → List ℕ → Offsets → List ℕ → List ℕ → Outcome
-put_asked (Known g) serial o pieces out =
+put_asked (Ok g) serial o pieces out =
     if (writable serial pieces) (λ _. put_bytes (cut_into pieces (payload_of serial o)) out) (λ _. refuse (refusal 18 0) out)
-put_asked (Unknown n) serial o pieces out = refuse (refusal n 0) out
+put_asked (Err n) serial o pieces out = refuse (refusal n 0) out
 
 -- what both ask, of the output; then 18, 12
 unfoldable pub write_vendor : ℕ → ℕ → List ℕ → Offsets → List ℕ → List ℕ → Outcome

@@ -23,17 +23,3 @@ pub struct Block {
     pub block: Part,
     pub offsets: Offsets,
 }
-
-// What a payload comes to: what it says, or the number of the refusal.
-#[derive(Clone, Copy)]
-pub enum Said {
-    Says(Block),
-    Wrong(u32),
-}
-
-// The answer of a vendor read: the length of the payload, and what it says.
-#[derive(Clone, Copy)]
-pub enum Vended {
-    Tells(usize, Block),
-    Unread(Refusal),
-}

@@ -6,11 +6,11 @@ use mathlib.Core.List.{List, [], ◌∷◌, ◌++◌, append_assoc, append-nil}
 use mathlib.Core.Bool.{Bool, false}
 use native.Mathlib.Omega.{arith}
 use lib.ListN.{length, length-append}
+use Rattle.std.specs.Prelude.{Ok, Err, Some, None}
 use Rattle.layout.specs.declared.Format.{Format}
 use Rattle.layout.specs.declared.Frame.{Frame}
 use Rattle.layout.specs.declared.Entry.{Entry}
-use Rattle.layout.specs.declared.Next.{Next}
-use Rattle.layout.specs.declared.Next.TheVariants.{Framed, Ended, Broken}
+use Rattle.layout.specs.Answers.{Next}
 use Rattle.layout.specs.Bytes.{part}
 use Rattle.layout.specs.Shape.{Shape, next}
 use Rattle.layout.specs.Editions.{shape}
@@ -26,7 +26,6 @@ use Rattle.laws.proofs.Passes.{Passing, pass-first, pass_on, pass-ends, pass-unb
 use Rattle.output.specs.Placing.{over, copied}
 use Rattle.output.proofs.Overlay.{length_over, over-nil, over-over, copied-over}
 use Rattle.reader.specs.declared.Standing.{Standing}
-use Rattle.reader.specs.declared.Here.TheVariants.{Stands, Over}
 use Rattle.reader.specs.Here.{here_by, here_at}
 use Rattle.reader.proofs.Lying.{framed-lies}
 use Rattle.records.specs.Words.{record_bytes, records_bytes}
@@ -47,19 +46,19 @@ records-none e = refl
 -- the frame of the entry that stands there
 record StandingFrame (S : Shape) (e : ℕ) (image : List ℕ) (shut : Bool) (p end : ℕ) (s : Standing) : Type 0 where
   pub frame : Frame
-  pub reads : next S shut (part p (end - p) image) ≡ Framed frame
+  pub reads : next S shut (part p (end - p) image) ≡ Ok (Some frame)
   pub entry : s.entry ≡ entry_of S e p (raw_of frame (part p (end - p) image))
   pub next_place : s.next ≡ p + frame.size
   pub next_shut : s.shut ≡ S.last frame.code
 
-here-framed : (S : Shape) (e : ℕ) (image : List ℕ) (shut : Bool) (p end : ℕ) (s : Standing) → here_at S e image shut p end ≡ Stands s → StandingFrame S e image shut p end s
+here-framed : (S : Shape) (e : ℕ) (image : List ℕ) (shut : Bool) (p end : ℕ) (s : Standing) → here_at S e image shut p end ≡ Some s → StandingFrame S e image shut p end s
 unfolding here_at
 here-framed S e image shut p end s q = go (next S shut (part p (end - p) image)) refl q
   where
-    go : (x : Next) → next S shut (part p (end - p) image) ≡ x → here_by x S e p (part p (end - p) image) ≡ Stands s → StandingFrame S e image shut p end s
-    go (Framed f) n q = record { frame = f; reads = n; entry = cc; next_place = cc; next_shut = cc }
-    go Ended n q = let z : ◌≡◌ {A = ℕ} 0 1 = cc in absurd (omega arith)
-    go (Broken k) n q = let z : ◌≡◌ {A = ℕ} 0 1 = cc in absurd (omega arith)
+    go : (x : Next) → next S shut (part p (end - p) image) ≡ x → here_by x S e p (part p (end - p) image) ≡ Some s → StandingFrame S e image shut p end s
+    go (Ok (Some f)) n q = record { frame = f; reads = n; entry = cc; next_place = cc; next_shut = cc }
+    go (Ok None) n q = let z : ◌≡◌ {A = ℕ} 0 1 = cc in absurd (omega arith)
+    go (Err k) n q = let z : ◌≡◌ {A = ℕ} 0 1 = cc in absurd (omega arith)
 
 -- ---- the pass
 
@@ -103,7 +102,7 @@ module _ (g : Format) (e : ℕ) (image : List ℕ) (start end : ℕ) where
       pub bound : s.next ≤ end
       pub low : at + 64 ≤ length d
 
-    pub filling-goes : (s : Standing) (out' : List ℕ) → here_at (shape g) e image shut p end ≡ Stands s → out' ≡ copied out at (record_bytes e s.entry) → Goes s out'
+    pub filling-goes : (s : Standing) (out' : List ℕ) → here_at (shape g) e image shut p end ≡ Some s → out' ≡ copied out at (record_bytes e s.entry) → Goes s out'
     filling-goes s out' q is =
         let h = here-framed (shape g) e image shut p end s q in
         let f = h.frame in
@@ -144,7 +143,7 @@ module _ (g : Format) (e : ℕ) (image : List ℕ) (start end : ℕ) where
           low = low;
         }
 
-    pub filling-over : here_at (shape g) e image shut p end ≡ Over → out ≡ copied d 0 (records_bytes e entries)
+    pub filling-over : here_at (shape g) e image shut p end ≡ None → out ≡ copied d 0 (records_bytes e entries)
     unfolding here_at
     filling-over q =
         let none : w.pass.todo ≡ [] = go (next (shape g) shut (part p (end - p) image)) refl q in
@@ -153,7 +152,7 @@ module _ (g : Format) (e : ℕ) (image : List ℕ) (start end : ℕ) where
         ∙ ap (λ (xs : List Entry). over d 0 (records_bytes e xs)) (sym same)
         ∙ sym (copied-over d 0 (records_bytes e entries) (omega (arith, length-records e entries, entries-count (shape g) e start all, fits)))
       where
-        go : (x : Next) → next (shape g) shut (part p (end - p) image) ≡ x → here_by x (shape g) e p (part p (end - p) image) ≡ Over → w.pass.todo ≡ []
-        go (Framed f) n q = let z : ◌≡◌ {A = ℕ} 0 1 = cc in absurd (omega arith)
-        go Ended n q = pass-ends (laws g) image end p shut w.pass n
-        go (Broken k) n q = absurd (pass-unbroken (laws g) image end p shut k w.pass n)
+        go : (x : Next) → next (shape g) shut (part p (end - p) image) ≡ x → here_by x (shape g) e p (part p (end - p) image) ≡ None → w.pass.todo ≡ []
+        go (Ok (Some f)) n q = let z : ◌≡◌ {A = ℕ} 0 1 = cc in absurd (omega arith)
+        go (Ok None) n q = pass-ends (laws g) image end p shut w.pass n
+        go (Err k) n q = absurd (pass-unbroken (laws g) image end p shut k w.pass n)

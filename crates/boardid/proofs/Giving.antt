@@ -9,20 +9,21 @@ use mathlib.Core.Bool.{Bool, true, false}
 use borrow.Author.Tests.{le-leb, lt-leb, leb-true}
 use lib.ListN.{length, drop}
 use lib.Dec.{leb}
+use Rattle.std.specs.Prelude.{Ok, Err}
 use Rattle.layout.specs.declared.Entry.{Entry}
-use Rattle.layout.specs.declared.Lookup.{Lookup}
-use Rattle.layout.specs.declared.Lookup.TheVariants.{Found, Missing}
+use Rattle.layout.specs.Answers.{Checked, Lookup}
+use Rattle.std.specs.Result.{IsErrAnd}
+use Rattle.layout.proofs.Passed.{passed}
 use Rattle.layout.specs.declared.Refusal.{Refusal}
 use Rattle.layout.specs.Bytes.{if, part_at, refusal}
 use Rattle.layout.specs.Editions.{shape, chosen}
 use Rattle.layout.specs.Walk.{Raw}
 use Rattle.layout.specs.Read.{Read, read_image}
-use Rattle.layout.specs.Calls.{Step, told, entries_of, entry_at, step_from}
+use Rattle.layout.specs.Calls.{Step, told, told_checked, told_refusal, entries_of, entry_at, step_from}
 use Rattle.layout.specs.Write.{word}
 use Rattle.laws.specs.Passes.{walked, IsDone, raws_in}
 use Rattle.laws.proofs.Records.{entries-count}
 use Rattle.accept.specs.declared.Room.{Room}
-use Rattle.accept.specs.declared.Taken.TheVariants.{Is, Isnt}
 use Rattle.accept.specs.Taken.{taken}
 use Rattle.output.specs.Placing.{over, copied}
 use Rattle.output.proofs.Overlay.{copied-over}
@@ -39,6 +40,14 @@ pub counted : (n : ℕ) (es : List Entry) → packed (told n (part_at 0 0) []) �
 unfolding packed
 counted n es = refl
 
+-- a refusal as an answer of a check
+pub refused-as : {r q : Refusal} → r ≡ q → packed (told_checked (Err r)) ≡ packed (told_refusal q)
+refused-as e = ap (λ (x : Refusal). packed (told_refusal x)) e
+
+-- and one that a `?` hands on
+pub handed-as : (x : Checked) (r : Refusal) → IsErrAnd x (λ q. q ≡ r) → packed (told_checked x) ≡ packed (told_refusal r)
+handed-as x r a = ap (λ (y : Checked). packed (told_checked y)) (passed x a)
+
 -- bytes over the first ones
 pub over_first : (m s : List ℕ) (n : ℕ) → length s ≡ n → n ≤ length m → copied m 0 s ≡ s ++ drop n m
 unfolding over
@@ -47,13 +56,13 @@ over_first m s n e le = copied-over m 0 s (omega arith) ∙ ap (λ (k : ℕ). s 
 -- ---- one record
 
 module _ (e : ℕ) (m : List ℕ) where
-  pub none-recorded : (r : Refusal) (l : Lookup) → l ≡ Missing r → recorded e l m ≡ kept r m
+  pub none-recorded : (r : Refusal) (l : Lookup) → l ≡ Err r → recorded e l m ≡ kept r m
   none-recorded r l q = rw q
 
-  pub not-recorded : (x : Entry) (l : Lookup) → l ≡ Found x → length m < 64 → recorded e l m ≡ kept (refusal 12 0) m
+  pub not-recorded : (x : Entry) (l : Lookup) → l ≡ Ok x → length m < 64 → recorded e l m ≡ kept (refusal 12 0) m
   not-recorded x l q lt = rw (q, lt-leb 64 (length m) lt)
 
-  pub is-recorded : (x : Entry) (l : Lookup) → l ≡ Found x → 64 ≤ length m → recorded e l m ≡ record { answer = packed (told 1 (part_at 0 0) []); memory = copied m 0 (record_bytes e x) }
+  pub is-recorded : (x : Entry) (l : Lookup) → l ≡ Ok x → 64 ≤ length m → recorded e l m ≡ record { answer = packed (told 1 (part_at 0 0) []); memory = copied m 0 (record_bytes e x) }
   is-recorded x l q le = rw (q, le-leb 64 (length m) le, over_first m (record_bytes e x) 64 (length-record e x) le, counted 1 (x ∷ []))
 
 pub entry-is : (f e : ℕ) (img : List ℕ) (n : ℕ) (m : List ℕ) → entry_call f e img n m ≡ recorded e (entry_at f e img n) m
@@ -70,14 +79,14 @@ abbrev pub steps_to : List ℕ → List ℕ → Step
 steps_to w img = step_from (walk_format w) (walk_edition w) (walk_entry w) img
 
 -- a walk that is cut short finds nothing
-short-walk : (w img : List ℕ) (x : Entry) → (steps_to w img).answer ≡ Found x → 16 ≤ length w
+short-walk : (w img : List ℕ) (x : Entry) → (steps_to w img).answer ≡ Ok x → 16 ≤ length w
 unfolding step_from entry_at read_image chosen
 short-walk w img x q = by_length (leb 16 (length w)) refl
   where
     by_length : (b : Bool) → leb 16 (length w) ≡ b → 16 ≤ length w
     by_length true h = leb-true 16 (length w) h
     by_length false h =
-        let none : Missing (refusal 16 0) ≡ Found x = rw h at q in
+        let none : Err (refusal 16 0) ≡ Ok x = rw h at q in
         let z : ◌≡◌ {A = ℕ} 0 1 = cc in absurd (omega arith)
 
 -- the walk that its words say
@@ -92,11 +101,11 @@ pub no_walk : (w : List ℕ) → length w < 16 →
 no_walk w lt = rw (lt-leb 16 (length w) lt)
 
 module _ (w img m : List ℕ) where
-  pub step-refused : (r : Refusal) → (steps_to w img).answer ≡ Missing r → step_call w img m ≡ unmoved r w m
+  pub step-refused : (r : Refusal) → (steps_to w img).answer ≡ Err r → step_call w img m ≡ unmoved r w m
   unfolding step_call
   step-refused r q = ap (λ (l : Lookup). stepped_to l (steps_to w img).next w m) q
 
-  pub step-short : (x : Entry) → (steps_to w img).answer ≡ Found x → length m < 64 → step_call w img m ≡ unmoved (refusal 12 0) w m
+  pub step-short : (x : Entry) → (steps_to w img).answer ≡ Ok x → length m < 64 → step_call w img m ≡ unmoved (refusal 12 0) w m
   unfolding step_call
   step-short x q lt = ap (λ (l : Lookup). stepped_to l (steps_to w img).next w m) q ∙ rw (lt-leb 64 (length m) lt)
 
@@ -106,7 +115,7 @@ module _ (w img m : List ℕ) where
       let l : length (words_bytes (n ∷ n / 4294967296 ∷ [])) ≡ 8 = length-words (n ∷ n / 4294967296 ∷ []) in
       rw (copied-over w 8 (words_bytes (n ∷ n / 4294967296 ∷ [])) (omega arith), l)
 
-  pub step_given : (x : Entry) → (steps_to w img).answer ≡ Found x → 64 ≤ length m →
+  pub step_given : (x : Entry) → (steps_to w img).answer ≡ Ok x → 64 ≤ length m →
       step_call w img m ≡ record {
         answer = packed (told 1 (part_at 0 0) []);
         walk = copied w 8 (words_bytes ((steps_to w img).next ∷ (steps_to w img).next / 4294967296 ∷ []));
@@ -120,11 +129,11 @@ module _ (w img m : List ℕ) where
 -- ---- the list
 
 module _ (f e : ℕ) (img m : List ℕ) where
-  pub list-refused : (r : Refusal) → taken f e img ≡ Isnt r → list_call f e img m ≡ kept r m
+  pub list-refused : (r : Refusal) → taken f e img ≡ Err r → list_call f e img m ≡ kept r m
   unfolding list_call
   list-refused r q = ap (λ (x : Read). recorded_by x e m) (not-took f e img r q)
 
-  module _ (room : Room) (q : taken f e img ≡ Is room) where
+  module _ (room : Room) (q : taken f e img ≡ Ok room) where
     abbrev raws : List Raw
     raws = raws_in (walked room.format img room.start room.end)
 

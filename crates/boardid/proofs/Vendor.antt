@@ -8,18 +8,16 @@ use native.Mathlib.Omega.{arith}
 use lib.ListN.{length, drop}
 use lib.Dec.{ltb, leb, eqb}
 use borrow.Author.Tests.{le-leb, lt-leb}
+use Rattle.std.specs.Prelude.{Ok, Err}
 use Rattle.layout.specs.declared.Format.{Format}
-use Rattle.layout.specs.declared.Chosen.{Chosen}
-use Rattle.layout.specs.declared.Chosen.TheVariants.{Known, Unknown}
+use Rattle.layout.specs.Answers.{Chosen}
 use Rattle.layout.specs.Bytes.{if, refusal}
 use Rattle.layout.specs.Editions.{chosen}
 use Rattle.layout.specs.Walk.{Content, content}
 use Rattle.layout.specs.Read.{limit, Read, accepted, refused, read_image}
 use Rattle.output.specs.Placing.{copied}
 use Rattle.blocks.specs.declared.Block.{Block}
-use Rattle.blocks.specs.declared.Said.{Said}
-use Rattle.blocks.specs.declared.Said.TheVariants.{Says, Wrong}
-use Rattle.blocks.specs.declared.Vended.TheVariants.{Tells}
+use Rattle.blocks.specs.Answers.{Said}
 use Rattle.blocks.specs.Payload.{matching, joined, payload_says}
 use Rattle.blocks.specs.Vendor.{ask_chosen, asked, untaken, taking, take_matching, take_read, read_vendor}
 use Rattle.blocks.proofs.Asking.{read-unasked, read_asked}
@@ -33,16 +31,16 @@ use Rattle.records.proofs.Words.{length-block}
 -- what refuses it does not go by the buffer
 module _ (a b : List ℕ) where
   by-room : (s t : Bool) (n : ℕ) (x : Block) (p : List ℕ) →
-      unlent (if s (λ _. record { answer = Tells n x; memory = p ++ drop n a }) (λ _. untaken (refusal 12 0) a)).answer
-      ≡ unlent (if t (λ _. record { answer = Tells n x; memory = p ++ drop n b }) (λ _. untaken (refusal 12 0) b)).answer
+      unlent (if s (λ _. record { answer = Ok (n, x); memory = p ++ drop n a }) (λ _. untaken (refusal 12 0) a)).answer
+      ≡ unlent (if t (λ _. record { answer = Ok (n, x); memory = p ++ drop n b }) (λ _. untaken (refusal 12 0) b)).answer
   by-room true true n x p = refl
   by-room true false n x p = refl
   by-room false true n x p = refl
   by-room false false n x p = refl
 
   by_said : (s : Said) (p : List ℕ) → unlent (taking s p a).answer ≡ unlent (taking s p b).answer
-  by_said (Says x) p = by-room (leb (length p) (length a)) (leb (length p) (length b)) (length p) x p
-  by_said (Wrong n) p = refl
+  by_said (Ok x) p = by-room (leb (length p) (length a)) (leb (length p) (length b)) (length p) x p
+  by_said (Err n) p = refl
 
   by-matching : (cs : List Content) → unlent (take_matching cs a).answer ≡ unlent (take_matching cs b).answer
   by-matching [] = refl
@@ -53,24 +51,24 @@ module _ (a b : List ℕ) where
   by_read (refused r) = refl
 
 -- what is asked of a buffer is asked of one of no bytes
-asked-none : (f e lent : ℕ) (g : Format) → asked f e lent ≡ Known g → asked f e 0 ≡ Known g
+asked-none : (f e lent : ℕ) (g : Format) → asked f e lent ≡ Ok g → asked f e 0 ≡ Ok g
 unfolding asked
 asked-none f e lent g q = go (eqb f 4) (chosen f e) q
   where
-    by-test : (t : Bool) (h : Format) → if t (λ _. Unknown 2) (λ _. Known h) ≡ Known g → Known h ≡ Known g
+    by-test : (t : Bool) (h : Format) → if {A = Chosen} t (λ _. Err 2) (λ _. Ok h) ≡ Ok g → ◌≡◌ {A = Chosen} (Ok h) (Ok g)
     by-test true h q = let z : ◌≡◌ {A = ℕ} 0 1 = cc in absurd (omega arith)
     by-test false h q = q
 
-    go : (b : Bool) (x : Chosen) → if b (λ _. ask_chosen x lent) (λ _. Unknown 16) ≡ Known g → if b (λ _. ask_chosen x 0) (λ _. Unknown 16) ≡ Known g
-    go true (Known h) q = by-test (ltb limit lent) h q
-    go true (Unknown n) q = q
+    go : (b : Bool) (x : Chosen) → if {A = Chosen} b (λ _. ask_chosen x lent) (λ _. Err 16) ≡ Ok g → if {A = Chosen} b (λ _. ask_chosen x 0) (λ _. Err 16) ≡ Ok g
+    go true (Ok h) q = by-test (ltb limit lent) h q
+    go true (Err n) q = q
     go false x q = q
 
 module _ (f e : ℕ) (image : List ℕ) (lent : ℕ) (buffer : List ℕ) (long : length buffer ≡ lent) where
-  pub unlent-unasked : (n : ℕ) → asked f e lent ≡ Unknown n → refusal n 0 ≡ unlent (read_vendor f e image buffer).answer
+  pub unlent-unasked : (n : ℕ) → asked f e lent ≡ Err n → refusal n 0 ≡ unlent (read_vendor f e image buffer).answer
   unlent-unasked n q = sym (ap (λ t. unlent t.answer) (read-unasked f e image buffer n (ap (asked f e) long ∙ q)))
 
-  pub unlent-alike : (g : Format) → asked f e lent ≡ Known g → unlent (read_vendor f e image []).answer ≡ unlent (read_vendor f e image buffer).answer
+  pub unlent-alike : (g : Format) → asked f e lent ≡ Ok g → unlent (read_vendor f e image []).answer ≡ unlent (read_vendor f e image buffer).answer
   unlent-alike g q =
       ap (λ t. unlent t.answer) (read_asked f e image [] g (asked-none f e lent g q))
       ∙ by_read [] buffer (read_image f e image)

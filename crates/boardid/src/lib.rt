@@ -4,7 +4,7 @@
 ghost use Rattle.std.specs.Prelude.{◌≡◌, ℕ, ◌+◌, ◌*◌, ◌/◌, ◌≤◌, ◌<◌, List, length};
 ghost use Rattle.layout.specs.Editions.{shape};
 ghost use Rattle.layout.specs.Bytes.{refusal};
-ghost use Rattle.layout.specs.Calls.{entries_of, told_refusal};
+ghost use Rattle.layout.specs.Calls.{entries_of, told_checked};
 ghost use Rattle.laws.specs.Passes.{walked, IsDone, raws_in};
 ghost use Rattle.output.specs.Placing.{copied};
 ghost use Rattle.blocks.specs.Vendor.{read_vendor};
@@ -12,10 +12,9 @@ ghost use Rattle.records.specs.Packed.{packed};
 ghost use Rattle.records.specs.Words.{records_bytes};
 ghost use Rattle.records.specs.Exports.{check_call, value_call, string_call, entry_call, walk_format, walk_edition, walk_entry, step_call, list_call, write_call, edit_call, add_call, remove_call, unlent, vendor_read_call, offsets_of, vendor_write_call, room_add_call, room_replace_call, room_remove_call, room_fetch_call};
 
-use accept::Taken;
-use blocks::{Offsets, Vended};
-use layout::{Chosen, Format, Lookup, Place, Refusal, StringNumber};
-use reader::{Here, Walk};
+use blocks::Offsets;
+use layout::{Format, Place, Refusal, StringNumber};
+use reader::Walk;
 
 // ---- check, value, string
 
@@ -24,7 +23,7 @@ use reader::{Here, Walk};
 pub extern "C" fn boardid_check(format: u32, edition: u32, image: &[u8]) -> u64
     ensures { result ≡ check_call format edition image.now }
 {
-    records::pack_checked(reader::check_image(format, edition, image))
+    records::pack_answer(reader::check_image(format, edition, image))
 }
 
 // The part of the image that is the value of entry n.
@@ -46,14 +45,22 @@ pub extern "C" fn boardid_string(format: u32, edition: u32, image: &[u8], number
 
 // ---- one record
 
-// No room for what is asked.
-fn no_room() -> u64
-    ensures { result ≡ packed (told_refusal (refusal 12 0)) }
+// The record of entry n, over the front of the output.
+fn give_entry(
+    format: u32,
+    edition: u32,
+    image: &[u8],
+    n: usize,
+    out: &mut [u8],
+) -> Result<usize, Refusal>
+    ensures { (packed (told_checked result) ≡ (entry_call format edition image.now n out.old).answer) × (out.new ≡ (entry_call format edition image.now n out.old).memory) }
 {
-    records::pack_refusal(Refusal {
-        number: 12,
-        place: Place(0),
-    })
+    let entry = reader::entry_at(format, edition, image, n)?;
+    if out.len() < 64 {
+        return Err(Refusal::from(12));
+    }
+    records::put_record(out, 0, edition, entry);
+    Ok(1)
 }
 
 // The record of entry n.
@@ -67,17 +74,7 @@ pub extern "C" fn boardid_entry(
 ) -> u64
     ensures { (result ≡ (entry_call format edition image.now n out.old).answer) × (out.new ≡ (entry_call format edition image.now n out.old).memory) }
 {
-    let x = reader::entry_at(format, edition, image, n as usize);
-    match x {
-        Lookup::Missing(r) => records::pack_refusal(r),
-        Lookup::Found(e) => {
-            if out.len() < 64 {
-                return no_room();
-            }
-            records::put_record(out, 0, edition, e);
-            records::pack_count(1)
-        }
-    }
+    records::pack_answer(give_entry(format, edition, image, n as usize, out))
 }
 
 // ---- the walk
@@ -102,26 +99,27 @@ fn walk_in(w: &[u8]) -> Walk
     }
 }
 
+// The record of the walk's entry, over the front of the output, and the walk moved on by one.
+fn give_step(walk: &mut [u8], image: &[u8], out: &mut [u8]) -> Result<usize, Refusal>
+    ensures { (packed (told_checked result) ≡ (step_call walk.old image.now out.old).answer) × (walk.new ≡ (step_call walk.old image.now out.old).walk) × (out.new ≡ (step_call walk.old image.now out.old).memory) }
+{
+    let w = walk_in(walk);
+    let s = w.step(image);
+    let entry = s.answer?;
+    if out.len() < 64 {
+        return Err(Refusal::from(12));
+    }
+    records::put_long(walk, 8, s.next.entry as u64);
+    records::put_record(out, 0, w.edition, entry);
+    Ok(1)
+}
+
 // The record of the walk's entry; the walk moves on by one.
 #[unsafe(no_mangle)]
 pub extern "C" fn boardid_step(walk: &mut [u8], image: &[u8], out: &mut [u8]) -> u64
     ensures { (result ≡ (step_call walk.old image.now out.old).answer) × (walk.new ≡ (step_call walk.old image.now out.old).walk) × (out.new ≡ (step_call walk.old image.now out.old).memory) }
 {
-    let w = walk_in(walk);
-    let s = w.step(image);
-    let x = s.answer;
-    match x {
-        Lookup::Missing(r) => records::pack_refusal(r),
-        Lookup::Found(e) => {
-            if out.len() < 64 {
-                return no_room();
-            }
-            let next = s.next;
-            records::put_long(walk, 8, next.entry as u64);
-            records::put_record(out, 0, w.edition, e);
-            records::pack_count(1)
-        }
-    }
+    records::pack_answer(give_step(walk, image, out))
 }
 
 // ---- the list
@@ -134,21 +132,24 @@ fn put_records(out: &mut [u8], format: Format, edition: u32, image: &[u8], start
     let mut p = start;
     let mut at: usize = 0;
     let mut shut = false;
-    loop {
-        let x = reader::entry_here(format, edition, image, shut, p, end);
-        match x {
-            Here::Over => {
-                return;
-            }
-            Here::Stands(s) => {
-                let e = s.entry;
-                records::put_record(out, at, edition, e);
-                shut = s.shut;
-                p = s.next;
-                at += 64;
-            }
-        }
+    while let Some(s) = reader::entry_here(format, edition, image, shut, p, end) {
+        records::put_record(out, at, edition, s.entry);
+        shut = s.shut;
+        p = s.next;
+        at += 64;
     }
+}
+
+// The records of all entries, where there is room for them.
+fn give_list(format: u32, edition: u32, image: &[u8], out: &mut [u8]) -> Result<usize, Refusal>
+    ensures { (packed (told_checked result) ≡ (list_call format edition image.now out.old).answer) × (out.new ≡ (list_call format edition image.now out.old).memory) }
+{
+    let room = accept::take_image(format, edition, image)?;
+    if out.len() / 64 < room.count {
+        return Err(Refusal::from(12));
+    }
+    put_records(out, room.format, edition, image, room.start, room.end);
+    Ok(room.count)
 }
 
 // The records of all entries.
@@ -156,19 +157,7 @@ fn put_records(out: &mut [u8], format: Format, edition: u32, image: &[u8], start
 pub extern "C" fn boardid_list(format: u32, edition: u32, image: &[u8], out: &mut [u8]) -> u64
     ensures { (result ≡ (list_call format edition image.now out.old).answer) × (out.new ≡ (list_call format edition image.now out.old).memory) }
 {
-    let t = accept::take_image(format, edition, image);
-    match t {
-        Taken::Isnt(r) => records::pack_refusal(r),
-        Taken::Is(room) => {
-            let count = room.count;
-            if out.len() / 64 < count {
-                return no_room();
-            }
-            let g = room.format;
-            put_records(out, g, edition, image, room.start, room.end);
-            records::pack_count(count)
-        }
-    }
+    records::pack_answer(give_list(format, edition, image, out))
 }
 
 // ---- write, edit, add and remove
@@ -184,7 +173,7 @@ pub extern "C" fn boardid_write(
 ) -> u64
     ensures { (result ≡ (write_call format edition fields.now values.now out.old).answer) × (out.new ≡ (write_call format edition fields.now values.now out.old).memory) }
 {
-    records::pack_made(writer::write_image(out, format, edition, fields, values))
+    records::pack_answer(writer::write_image(out, format, edition, fields, values))
 }
 
 // The image with another value for entry n, into the output.
@@ -199,7 +188,7 @@ pub extern "C" fn boardid_edit(
 ) -> u64
     ensures { (result ≡ (edit_call format edition image.now n value.now out.old).answer) × (out.new ≡ (edit_call format edition image.now n value.now out.old).memory) }
 {
-    records::pack_made(editor::edit_entry(out, format, edition, image, n as usize, value))
+    records::pack_answer(editor::edit_entry(out, format, edition, image, n as usize, value))
 }
 
 // The image with an entry for the field, into the output.
@@ -214,7 +203,7 @@ pub extern "C" fn boardid_add(
 ) -> u64
     ensures { (result ≡ (add_call format edition image.now field.now values.now out.old).answer) × (out.new ≡ (add_call format edition image.now field.now values.now out.old).memory) }
 {
-    records::pack_made(editor::add_field(out, format, edition, image, field, values))
+    records::pack_answer(editor::add_field(out, format, edition, image, field, values))
 }
 
 // The image without entry n, into the output.
@@ -228,30 +217,40 @@ pub extern "C" fn boardid_remove(
 ) -> u64
     ensures { (result ≡ (remove_call format edition image.now n out.old).answer) × (out.new ≡ (remove_call format edition image.now n out.old).memory) }
 {
-    records::pack_made(editor::remove_entry(out, format, edition, image, n as usize))
+    records::pack_answer(editor::remove_entry(out, format, edition, image, n as usize))
 }
 
 // ---- vendor blocks
 
-// The answer of a read where less than a block is lent, with a buffer of so many bytes: 12 at 0, after every other refusal.
-fn read_unlent(format: u32, edition: u32, image: &[u8], lent: usize) -> u64
-    ensures { (buffer : List ℕ) → length buffer ≡ lent → result ≡ packed (told_refusal (unlent (read_vendor format edition image.now buffer).answer)) }
+// What refuses a read where less than a block is lent, with a buffer of so many bytes: 12 at 0, after every other refusal.
+fn read_unlent(format: u32, edition: u32, image: &[u8], lent: usize) -> Refusal
+    ensures { (buffer : List ℕ) → length buffer ≡ lent → result ≡ unlent (read_vendor format edition image.now buffer).answer }
 {
-    let a = vendor::ask(format, edition, lent);
-    match a {
-        Chosen::Unknown(k) => records::pack_refusal(Refusal {
-            number: k,
-            place: Place(0),
-        }),
-        Chosen::Known(_) => {
-            let mut none = [0u8; 0];
-            let v = vendor::read_vendor(&mut none, format, edition, image);
-            match v {
-                Vended::Unread(r) => records::pack_refusal(r),
-                Vended::Tells(_, _) => no_room(),
-            }
-        }
+    match vendor::ask(format, edition, lent) {
+        Err(number) => Refusal::from(number),
+        Ok(_) => match vendor::read_vendor(&mut [], format, edition, image) {
+            Err(r) => r,
+            Ok(_) => Refusal::from(12),
+        },
     }
+}
+
+// The payload of an image, into the buffer, and what it says, into the block.
+fn give_payload(
+    format: u32,
+    edition: u32,
+    image: &[u8],
+    payload: &mut [u8],
+    block: &mut [u8],
+) -> Result<usize, Refusal>
+    ensures { (packed (told_checked result) ≡ (vendor_read_call format edition image.now payload.old block.old).answer) × (payload.new ≡ (vendor_read_call format edition image.now payload.old block.old).payload) × (block.new ≡ (vendor_read_call format edition image.now payload.old block.old).block) }
+{
+    if block.len() < 48 {
+        return Err(read_unlent(format, edition, image, payload.len()));
+    }
+    let (n, said) = vendor::read_vendor(payload, format, edition, image)?;
+    records::put_block(block, said);
+    Ok(n)
 }
 
 // The payload of an image, into the buffer, and what it says, into the block.
@@ -265,34 +264,14 @@ pub extern "C" fn boardid_vendor_read(
 ) -> u64
     ensures { (result ≡ (vendor_read_call format edition image.now payload.old block.old).answer) × (payload.new ≡ (vendor_read_call format edition image.now payload.old block.old).payload) × (block.new ≡ (vendor_read_call format edition image.now payload.old block.old).block) }
 {
-    if block.len() < 48 {
-        return read_unlent(format, edition, image, payload.len());
-    }
-    let v = vendor::read_vendor(payload, format, edition, image);
-    match v {
-        Vended::Unread(r) => records::pack_refusal(r),
-        Vended::Tells(n, b) => {
-            records::put_block(block, b);
-            records::pack_count(n)
-        }
-    }
+    records::pack_answer(give_payload(format, edition, image, payload, block))
 }
 
 // The offsets in a number of 64 bits.
 fn offsets_of(n: u64) -> Offsets
     ensures { result ≡ offsets_of n }
 {
-    let eight = [
-        (n % 256) as u8,
-        (n / 256 % 256) as u8,
-        (n / 65536 % 256) as u8,
-        (n / 16777216 % 256) as u8,
-        (n / 4294967296 % 256) as u8,
-        (n / 1099511627776 % 256) as u8,
-        (n / 281474976710656 % 256) as u8,
-        (n / 72057594037927936 % 256) as u8,
-    ];
-    offsets::offsets_in(&eight)
+    offsets::offsets_in(&n.to_le_bytes())
 }
 
 // The values of a payload in pieces, into the output.
@@ -307,8 +286,8 @@ pub extern "C" fn boardid_vendor_write(
 ) -> u64
     ensures { (result ≡ (vendor_write_call format edition serial.now offsets pieces.now out.old).answer) × (out.new ≡ (vendor_write_call format edition serial.now offsets pieces.now out.old).memory) }
 {
-    let o = offsets_of(offsets);
-    records::pack_made(vendor::write_vendor(out, format, edition, serial, o, pieces))
+    let offsets = offsets_of(offsets);
+    records::pack_answer(vendor::write_vendor(out, format, edition, serial, offsets, pieces))
 }
 
 // ---- machine-room files
@@ -326,7 +305,7 @@ pub extern "C" fn boardid_room_add(
 ) -> u64
     ensures { (result ≡ (room_add_call form edition file.now board format body.now out.old).answer) × (out.new ≡ (room_add_call form edition file.now board format body.now out.old).memory) }
 {
-    records::pack_made(room_calls::add_board(out, form, edition, file, board, format, body))
+    records::pack_answer(room_calls::add_board(out, form, edition, file, board, format, body))
 }
 
 // The file with another body and format for a board, into the output.
@@ -342,7 +321,7 @@ pub extern "C" fn boardid_room_replace(
 ) -> u64
     ensures { (result ≡ (room_replace_call form edition file.now board format body.now out.old).answer) × (out.new ≡ (room_replace_call form edition file.now board format body.now out.old).memory) }
 {
-    records::pack_made(room_calls::replace_board(out, form, edition, file, board, format, body))
+    records::pack_answer(room_calls::replace_board(out, form, edition, file, board, format, body))
 }
 
 // The file without a board, into the output.
@@ -356,7 +335,7 @@ pub extern "C" fn boardid_room_remove(
 ) -> u64
     ensures { (result ≡ (room_remove_call form edition file.now board out.old).answer) × (out.new ≡ (room_remove_call form edition file.now board out.old).memory) }
 {
-    records::pack_made(room_calls::remove_board(out, form, edition, file, board))
+    records::pack_answer(room_calls::remove_board(out, form, edition, file, board))
 }
 
 // The part of the file that is the body of a board.

@@ -10,83 +10,44 @@ use layout::{Date, Time};
 fn is_leap(year: u32) -> bool
     ensures { result ≡ leap year }
 {
-    if year % 4 != 0 {
-        return false;
-    }
-    if year % 100 != 0 {
-        return true;
-    }
-    year % 400 == 0
+    year % 4 == 0 && (year % 100 != 0 || year % 400 == 0)
 }
 
 // The last day of a month, of a leap year or of another.
+#[tactic(auto, unfolding(layout::specs::Calendar::last_day, layout::specs::Bytes::one_of))]
 fn last_day(long: bool, month: u32) -> u32
     ensures { result ≡ last_day long month }
 {
-    if month == 2 {
-        if long {
-            return 29;
-        }
-        return 28;
+    match month {
+        2 => if long { 29 } else { 28 },
+        4 | 6 | 9 | 11 => 30,
+        _ => 31,
     }
-    if month == 4 {
-        return 30;
-    }
-    if month == 6 {
-        return 30;
-    }
-    if month == 9 {
-        return 30;
-    }
-    if month == 11 {
-        return 30;
-    }
-    31
 }
 
 // Whether a date is a day of the years 1 to 9999.
+#[tactic(auto, unfolding(layout::specs::Calendar::is_day))]
 pub fn is_day(d: Date) -> bool
     ensures { result ≡ is_day d }
 {
-    let year = d.year;
-    let month = d.month;
-    let day = d.day;
-    if year < 1 {
-        return false;
-    }
-    if 9999 < year {
-        return false;
-    }
-    if month < 1 {
-        return false;
-    }
-    if 12 < month {
-        return false;
-    }
-    if day < 1 {
-        return false;
-    }
-    day <= last_day(is_leap(year), month)
+    (1..=9999).contains(&d.year)
+        && (1..=12).contains(&d.month)
+        && (1..=last_day(is_leap(d.year), d.month)).contains(&d.day)
 }
 
 // Whether a time is one of a day.
+#[tactic(auto, unfolding(layout::specs::Calendar::is_time))]
 pub fn is_time(t: Time) -> bool
     ensures { result ≡ is_time t }
 {
-    if 23 < t.hour {
-        return false;
-    }
-    if 59 < t.minute {
-        return false;
-    }
-    t.second <= 59
+    t.hour <= 23 && t.minute <= 59 && t.second <= 59
 }
 
 // The number that a digit shows.
 fn digit_value(x: u8) -> u32
     ensures { result ≡ x - 0x30 }
 {
-    if x < 0x30 { 0 } else { (x - 0x30) as u32 }
+    u32::from(x.saturating_sub(b'0'))
 }
 
 // The number that two digits show.
@@ -100,20 +61,21 @@ fn shown(x: u8, y: u8) -> u32
 pub fn two_digits(v: &[u8], i: usize) -> u32
     ensures { result ≡ two_digits i v.now }
 {
-    if v.len() <= i {
-        return 0;
+    if i < v.len() {
+        shown(v[i], parts::byte_at(v, i + 1))
+    } else {
+        0
     }
-    shown(v[i], parts::byte_at(v, i + 1))
 }
 
 // The number that four digits from place i on show.
 pub fn four_digits(v: &[u8], i: usize) -> u32
     ensures { result ≡ four_digits i v.now }
 {
-    if v.len() <= i {
-        return 0;
+    if i < v.len() {
+        shown(v[i], parts::byte_at(v, i + 1)) * 100
+            + shown(parts::byte_at(v, i + 2), parts::byte_at(v, i + 3))
+    } else {
+        0
     }
-    let hundreds = shown(v[i], parts::byte_at(v, i + 1));
-    let j = i + 2;
-    hundreds * 100 + shown(parts::byte_at(v, j), parts::byte_at(v, j + 1))
 }

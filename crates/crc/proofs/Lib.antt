@@ -4,4 +4,5 @@ pub mod Loop
 pub mod Mirror
 pub mod SingleBit
 pub mod Table
+pub mod Tables
 pub mod Xor

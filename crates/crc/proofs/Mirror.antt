@@ -8,7 +8,7 @@ use native.Mathlib.Numerals.{one-add}
 use native.Mathlib.Omega.{arith}
 use lib.Arith.{digits_lt, digits_div, digits_mod}
 use lib.Dec.{lit<, lit≤}
-use lib.ListN.{length, get_or, get_or-map}
+use lib.ListN.{length}
 use lib.Pow.{shr-shr, high, low, mod-pow-add, shr_le}
 use lib.Bits.{bit_xor, xor_shr, xor_mod, xor_block, xor_comm, xor_self, xor_zero_r}
 use Rattle.crc.specs.Crc.{byte_in, remainder, ahead, check_of, mirror, mirrored, polynomial32, check32_of}
@@ -127,11 +127,6 @@ four-by-table32 p r b c d e fits lt =
     ∙ ap (bit_xor (mirror 32 t₃)) (peel-mirrored 32 p r₁ c (m d ∷ m e ∷ []) h fits lt₁
     ∙ ap (bit_xor (mirror 32 t₂)) (ap (λ (x : ℕ). check_of 32 p (mirror 32 x) (m d ∷ m e ∷ [])) (shr-shr r 8 8) ∙ peel-mirrored 32 p r₂ d (m e ∷ []) h fits lt₂
     ∙ ap (bit_xor (mirror 32 t₁)) (peel-mirrored 32 p r₃ e [] h fits lt₃ ∙ ap (bit_xor (mirror 32 t₀)) none ∙ xor_zero_r (mirror 32 t₀)))))
-
--- The byte at i of the mirrored bytes is the mirror of that at i.
-pub mirror-at : (bs : List ℕ) (i : ℕ) → get_or (map (mirror 8) bs) i 0 ≡ mirror 8 (get_or bs i 0)
-unfolding mirror
-mirror-at bs i = get_or-map (mirror 8) bs i 0
 
 -- Bytes after others, all mirrored, are taken in after them.
 pub mirrored-parts : (w p s : ℕ) (bs cs : List ℕ) →

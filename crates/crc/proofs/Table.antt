@@ -8,20 +8,20 @@ use lib.ListN.{get_or}
 use Rattle.crc.specs.Table.{rows}
 
 -- The entry at k of a table whose rows begin at i is the function at i + k.
-made-from : (f : ℕ → ℕ) (n i k : ℕ) → k < n → get_or (rows f n i) k 0 ≡ f (i + k)
+made-from : (f : ℕ → ℕ) (n i k d : ℕ) → k < n → get_or (rows f n i) k d ≡ f (i + k)
 unfolding rows
-made-from f zero i k h = absurd (not-suc-le-zero h)
-made-from f (suc n) i zero h = ap f (sym (add-zero i))
-made-from f (suc n) i (suc k) h = made-from f n (suc i) k (le_of_suc-le-suc h) ∙ ap f (suc-add i k ∙ sym (add-suc i k))
+made-from f zero i k d h = absurd (not-suc-le-zero h)
+made-from f (suc n) i zero d h = ap f (sym (add-zero i))
+made-from f (suc n) i (suc k) d h = made-from f n (suc i) k d (le_of_suc-le-suc h) ∙ ap f (suc-add i k ∙ sym (add-suc i k))
 
 -- The entry at k of a made table is the function at k.
 pub made : (f : ℕ → ℕ) (n k : ℕ) → k < n → get_or (rows f n 0) k 0 ≡ f k
-made f n k h = made-from f n 0 k h ∙ ap f (zero-add k)
+made f n k h = made-from f n 0 k 0 h ∙ ap f (zero-add k)
 
 -- A table's rule over all its 256 entries: it is the made one. Of a constant table antt computes it.
 abbrev pub Made : (ℕ → ℕ) → List ℕ → Type 0
 Made f t = t ≡ rows f 256 0
 
 -- A table's rule, carried to each index.
-pub made_at : (f : ℕ → ℕ) (t : List ℕ) (k : ℕ) → k < 256 → Made f t → get_or t k 0 ≡ f k
-made_at f t k lt is = ap (λ (l : List ℕ). get_or l k 0) is ∙ made f 256 k lt
+pub made_at : (f : ℕ → ℕ) (t : List ℕ) → Made f t → (k : ℕ) → k < 256 → get_or t k (f k) ≡ f k
+made_at f t is k lt = ap (λ (l : List ℕ). get_or l k (f k)) is ∙ made-from f 256 0 k (f k) lt ∙ ap f (zero-add k)

@@ -1,10 +1,8 @@
 // Checks of a slice of bytes, of 16 bits, of 8 and of 32, each by constant tables of remainders.
 #![tactic(auto)]
 
-ghost use Rattle.std.specs.Prelude.{◌≡◌, [], ◌∷◌, ◌++◌, map, ℕ, ◌/◌, ◌%◌};
-ghost use Rattle.crc.specs.Crc.{byte_in, remainder, ahead, check_of, mirror, mirrored, polynomial16, polynomial8, polynomial32, check16_of, check8_of, check32_of};
-ghost use Rattle.std.specs.Int.Bits.{bit_xor};
-ghost use Rattle.crc.specs.Table.{rows};
+ghost use Rattle.std.specs.Prelude.{◌≡◌, [], ◌∷◌, ◌++◌, List, map, ℕ, ◌<◌, slice_index_or};
+ghost use Rattle.crc.specs.Crc.{check_of, mirror, polynomial16, polynomial8, polynomial32, check16_of, check8_of, check32_of};
 
 mod ahead16;
 mod ahead32;
@@ -20,175 +18,135 @@ use remainders8::REMAINDERS8;
 use remainders16::REMAINDERS16;
 use remainders32::REMAINDERS32;
 
+// The four tables of each check: at n, that for a byte that is taken in with n others after it. In one array, so that a loop keeps one address for all four.
+static TABLES8: [[u8; 256]; 4] = [REMAINDERS8, AHEAD8_1, AHEAD8_2, AHEAD8_3];
+
+static TABLES16: [[u16; 256]; 4] = [REMAINDERS16, AHEAD16_1, AHEAD16_2, AHEAD16_3];
+
+static TABLES32: [[u32; 256]; 4] = [REMAINDERS32, AHEAD32_1, AHEAD32_2, AHEAD32_3];
+
+// The entry at i of a table, which is f at i where f is the rule of all its entries.
+fn entry<T: Copy>(table: &[T; 256], i: u8) -> T
+    ensures { (f : ℕ → T) → ((k : ℕ) → k < 256 → slice_index_or table.now k (f k) ≡ f k) → result ≡ f i }
+{
+    table[usize::from(i)]
+}
+
+// A remainder, by which a check goes on after the bytes that it has taken in.
+trait Remainder: Copy {
+    // What the check gives once these bytes are taken in too.
+    ghost gives: { Self → List ℕ → ℕ };
+
+    // One byte taken in, by one look into a table.
+    fn byte_in(self, b: u8) -> Self
+        ensures { (bs : List ℕ) → gives result bs ≡ gives self (b ∷ bs) };
+
+    // Four bytes taken in at once, each by a look into a table of its own: no look waits for another of the four.
+    fn four_in(self, four: [u8; 4]) -> Self
+        ensures { (bs : List ℕ) → gives result bs ≡ gives self (four ++ bs) };
+}
+
+// The bytes taken in, four at once, and then those that are left.
+fn taken_in<R: Remainder>(start: R, bytes: &[u8]) -> R
+    ensures { (bs : List ℕ) → R.gives result bs ≡ R.gives start (bytes.now ++ bs) }
+{
+    let (fours, rest) = bytes.as_chunks::<4>();
+    let mut r = start;
+    for four in fours {
+        r = r.four_in(*four);
+    }
+    for b in rest {
+        r = r.byte_in(*b);
+    }
+    r
+}
+
 // ---- of 16 bits
 
-// The entry at i of a table.
-fn entry16(table: &[u16; 256], i: u8) -> u16
-    ensures { (f : ℕ → ℕ) → table.now ≡ rows f 256 0 → result ≡ f i }
-{
-    table[i as usize]
+impl Remainder for u16 {
+    ghost gives = { check_of 16 polynomial16 };
+
+    fn byte_in(self, b: u8) -> u16 {
+        let [high, _] = self.to_be_bytes();
+        (self << 8) ^ entry(&TABLES16[0], high ^ b)
+    }
+
+    fn four_in(self, four: [u8; 4]) -> u16 {
+        let [high, low] = self.to_be_bytes();
+        let [b, c, d, e] = four;
+        let rest = entry(&TABLES16[1], d) ^ entry(&TABLES16[0], e);
+        rest ^ (entry(&TABLES16[3], high ^ b) ^ entry(&TABLES16[2], low ^ c))
+    }
 }
 
-// One byte taken in, by one look into the table.
-fn byte_in16(remainders: &[u16; 256], r: u16, b: u8) -> u16
-    requires { remainders.now ≡ rows (remainder 16 polynomial16) 256 0 }
-    ensures { result ≡ byte_in 16 polynomial16 r b }
-{
-    let top = (r >> 8) as u8;
-    (r << 8) ^ entry16(remainders, top ^ b)
-}
-
-// The entries of two tables at the high and the low byte of a remainder, after a byte of the message has gone onto each.
-fn mixed16(high: &[u16; 256], low: &[u16; 256], r: u16, b: u8, c: u8) -> u16
-    ensures { (f g : ℕ → ℕ) → high.now ≡ rows f 256 0 → low.now ≡ rows g 256 0 → result ≡ bit_xor (f (bit_xor (r / 256) b)) (g (bit_xor (r % 256) c)) }
-{
-    let upper = (r >> 8) as u8;
-    let lower = (r % 256) as u8;
-    entry16(high, upper ^ b) ^ entry16(low, lower ^ c)
-}
-
-// The 16-bit check (01, FBOSS v5). Four bytes are taken in at once, each by a look into a table of its own: no look waits for another of the four.
+// The 16-bit check (01, FBOSS v5).
 pub fn check16(bytes: &[u8]) -> u16
     ensures { result ≡ check16_of bytes.now }
 {
-    // Locals, lent to each turn: a constant that is read in the loop is copied in each turn.
-    let third = AHEAD16_3;
-    let second = AHEAD16_2;
-    let first = AHEAD16_1;
-    let remainders = REMAINDERS16;
-    let mut r: u16 = 0x1D0F;
-    let mut i = 0;
-    while i + 3 < bytes.len() {
-        let rest = mixed16(&first, &remainders, 0, bytes[i + 2], bytes[i + 3]);
-        r = rest ^ mixed16(&third, &second, r, bytes[i], bytes[i + 1]);
-        i += 4;
-    }
-    while i < bytes.len() {
-        r = byte_in16(&remainders, r, bytes[i]);
-        i += 1;
-    }
-    r
+    taken_in(0x1D0F, bytes)
 }
 
 // ---- of 8 bits
 
-// The entry at i of a table.
-fn entry8(table: &[u8; 256], i: u8) -> u8
-    ensures { (f : ℕ → ℕ) → table.now ≡ rows f 256 0 → result ≡ f i }
-{
-    table[i as usize]
+impl Remainder for u8 {
+    ghost gives = { check_of 8 polynomial8 };
+
+    // No bit of the remainder stays.
+    fn byte_in(self, b: u8) -> u8 {
+        entry(&TABLES8[0], self ^ b)
+    }
+
+    // The one look that waits for the remainder comes last.
+    fn four_in(self, four: [u8; 4]) -> u8 {
+        let [b, c, d, e] = four;
+        let rest = entry(&TABLES8[2], c) ^ entry(&TABLES8[1], d) ^ entry(&TABLES8[0], e);
+        rest ^ entry(&TABLES8[3], self ^ b)
+    }
 }
 
-// One byte taken in, by one look into the table: no bit of the remainder stays.
-fn byte_in8(remainders: &[u8; 256], r: u8, b: u8) -> u8
-    requires { remainders.now ≡ rows (remainder 8 polynomial8) 256 0 }
-    ensures { result ≡ byte_in 8 polynomial8 r b }
-{
-    entry8(remainders, r ^ b)
-}
-
-// The 8-bit check from a start (01, Tiny version 2, whose start is 0; 02, Tiny check from a table), four bytes at once as in check16: the one look that waits for the remainder comes last.
+// The 8-bit check from a start (01, Tiny version 2, whose start is 0; 02, Tiny check from a table).
 pub fn check8(start: u8, bytes: &[u8]) -> u8
     ensures { result ≡ check8_of start bytes.now }
 {
-    // Locals, lent to each turn, as those of check16.
-    let third = AHEAD8_3;
-    let second = AHEAD8_2;
-    let first = AHEAD8_1;
-    let remainders = REMAINDERS8;
-    let mut r = start;
-    let mut i = 0;
-    while i + 3 < bytes.len() {
-        let rest = entry8(&second, bytes[i + 1])
-            ^ entry8(&first, bytes[i + 2])
-            ^ entry8(&remainders, bytes[i + 3]);
-        r = rest ^ entry8(&third, r ^ bytes[i]);
-        i += 4;
-    }
-    while i < bytes.len() {
-        r = byte_in8(&remainders, r, bytes[i]);
-        i += 1;
-    }
-    r
+    taken_in(start, bytes)
 }
 
 // ---- of 32 bits, with the remainder and the tables mirrored
 
-// The entry at i of a table.
-fn entry32(table: &[u32; 256], i: u8) -> u32
-    ensures { (f : ℕ → ℕ) → table.now ≡ rows f 256 0 → result ≡ f i }
-{
-    table[i as usize]
-}
+impl Remainder for u32 {
+    ghost gives = { λ r bs. check_of 32 polynomial32 (mirror 32 r) (map (mirror 8) bs) };
 
-// One byte taken in, by one look into the table.
-fn byte_in32(remainders: &[u32; 256], r: u32, b: u8) -> u32
-    requires { remainders.now ≡ rows (mirrored 32 (remainder 32 polynomial32)) 256 0 }
-    ensures { mirror 32 result ≡ byte_in 32 polynomial32 (mirror 32 r) (mirror 8 b) }
-{
-    let lowest = (r % 256) as u8;
-    (r >> 8) ^ entry32(remainders, lowest ^ b)
-}
-
-// The entries of two tables at the lowest byte of a remainder and the next one, after a byte of the message has gone onto each.
-fn mixed32(low: &[u32; 256], high: &[u32; 256], r: u32, b: u8, c: u8) -> u32
-    ensures { (f g : ℕ → ℕ) → low.now ≡ rows f 256 0 → high.now ≡ rows g 256 0 → result ≡ bit_xor (f (bit_xor (r % 256) b)) (g (bit_xor (r / 256 % 256) c)) }
-{
-    let lowest = (r % 256) as u8;
-    let next = ((r >> 8) % 256) as u8;
-    entry32(low, lowest ^ b) ^ entry32(high, next ^ c)
-}
-
-// The bytes taken in from a start, four at once as in check16, over tables that are lent.
-fn bytes_in32(
-    third: &[u32; 256],
-    second: &[u32; 256],
-    first: &[u32; 256],
-    remainders: &[u32; 256],
-    start: u32,
-    bytes: &[u8],
-) -> u32
-    requires { (third.now ≡ rows (mirrored 32 (ahead 32 polynomial32 3)) 256 0) × (second.now ≡ rows (mirrored 32 (ahead 32 polynomial32 2)) 256 0) × (first.now ≡ rows (mirrored 32 (ahead 32 polynomial32 1)) 256 0) × (remainders.now ≡ rows (mirrored 32 (remainder 32 polynomial32)) 256 0) }
-    ensures { mirror 32 result ≡ check_of 32 polynomial32 (mirror 32 start) (map (mirror 8) bytes.now) }
-{
-    let mut r: u32 = start;
-    let mut i = 0;
-    while i + 3 < bytes.len() {
-        let rest = mixed32(first, remainders, r >> 16, bytes[i + 2], bytes[i + 3]);
-        r = mixed32(third, second, r, bytes[i], bytes[i + 1]) ^ rest;
-        i += 4;
+    fn byte_in(self, b: u8) -> u32 {
+        let [lowest, _, _, _] = self.to_le_bytes();
+        (self >> 8) ^ entry(&TABLES32[0], lowest ^ b)
     }
-    while i < bytes.len() {
-        r = byte_in32(remainders, r, bytes[i]);
-        i += 1;
+
+    fn four_in(self, four: [u8; 4]) -> u32 {
+        let [lowest, second, third, highest] = self.to_le_bytes();
+        let [b, c, d, e] = four;
+        let front = entry(&TABLES32[3], lowest ^ b) ^ entry(&TABLES32[2], second ^ c);
+        front ^ (entry(&TABLES32[1], third ^ d) ^ entry(&TABLES32[0], highest ^ e))
     }
-    r
 }
 
-// The 32-bit check of bytes and of more bytes after them that need not stand beside them: the one place where its tables are made.
+// The 32-bit check of bytes and of more bytes after them that need not stand beside them.
 fn check32_over(bytes: &[u8], last: &[u8]) -> u32
     ensures { result ≡ check32_of (bytes.now ++ last.now) }
 {
-    // Locals, lent to each turn, as those of check16.
-    let third = AHEAD32_3;
-    let second = AHEAD32_2;
-    let first = AHEAD32_1;
-    let remainders = REMAINDERS32;
-    let r = bytes_in32(&third, &second, &first, &remainders, 0xFFFFFFFF, bytes);
-    bytes_in32(&third, &second, &first, &remainders, r, last) ^ 0xFFFFFFFF
+    let r = taken_in(0xFFFFFFFF, bytes);
+    taken_in(r, last) ^ 0xFFFFFFFF
 }
 
 // The 32-bit check (02, ONIE images and edition 3).
 pub fn check32(bytes: &[u8]) -> u32
     ensures { result ≡ check32_of bytes.now }
 {
-    check32_over(bytes, &bytes[..0])
+    check32_over(bytes, &[])
 }
 
 // The 32-bit check of bytes and two more after them that need not stand beside them.
 pub fn check32_closed(bytes: &[u8], x: u8, y: u8) -> u32
     ensures { result ≡ check32_of (bytes.now ++ (x ∷ y ∷ [])) }
 {
-    let two = [x, y];
-    check32_over(bytes, &two)
+    check32_over(bytes, &[x, y])
 }

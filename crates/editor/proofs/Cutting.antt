@@ -6,9 +6,7 @@ use mathlib.Core.List.{List, ◌++◌, append_assoc}
 use native.Mathlib.Omega.{arith}
 use lib.ListN.{length, length-append}
 use Rattle.layout.specs.Bytes.{part}
-use Rattle.layout.specs.Shape.{Shape}
 use Rattle.laws.proofs.Frames.{part-between}
-use Rattle.editor.specs.declared.Fresh.{Fresh}
 use Rattle.editor.specs.Here.{spliced, spliced_at}
 
 -- the entries stand after H: `front` stays, `gone` does not, `after` stays
@@ -28,5 +26,5 @@ module _ (H front gone after rest : List ℕ) {image : List ℕ} (is : image ≡
       let split : image ≡ x ++ (after ++ rest) = is ∙ simp append_assoc in
       rw (long, split) (part-between x after rest next at)
 
-  pub cut-spliced : (S : Shape) (x : Fresh) (key v : List ℕ) → spliced_at S x key v image start cut next over ≡ spliced S x key v front after
-  cut-spliced S x key v = ap₂ (λ (a b : List ℕ). spliced S x key v a b) front-part after-part
+  pub cut-spliced : (fresh : List ℕ) → spliced_at fresh image start cut next over ≡ spliced front fresh after
+  cut-spliced fresh = ap₂ (λ (a b : List ℕ). spliced a fresh b) front-part after-part

@@ -1,8 +1,7 @@
 -- A change of entries by where they stand in an image.
 -- Assumes nothing.
-use Rattle.std.specs.Prelude.{ℕ, ◌+◌, ◌-◌, ◌≤◌, ◌<◌, ◌≡◌, List, [], ◌∷◌, ◌++◌, true, length, ltb}
-use Rattle.layout.specs.declared.Chosen.{Chosen}
-use Rattle.layout.specs.declared.Chosen.TheVariants.{Known, Unknown}
+use Rattle.std.specs.Prelude.{ℕ, ◌+◌, ◌-◌, ◌≤◌, ◌<◌, ◌≡◌, List, [], ◌∷◌, ◌++◌, true, length, ltb, Ok, Err, Some, None}
+use Rattle.layout.specs.Answers.{Chosen}
 use Rattle.layout.specs.declared.Field.{Field}
 use Rattle.layout.specs.declared.Frame.{Frame}
 use Rattle.layout.specs.Bytes.{if, part, refusal}
@@ -10,39 +9,46 @@ use Rattle.layout.specs.Shape.{Shape, Label}
 use Rattle.layout.specs.Editions.{chosen, names}
 use Rattle.layout.specs.Walk.{Raw, content, label_of}
 use Rattle.layout.specs.Read.{limit, same}
-use Rattle.layout.specs.Write.{Outcome, refuse, put, image_of, field_content, parts_inside, writer_rule}
+use Rattle.layout.specs.Write.{Outcome, refuse, put, image_of, entry_bytes, field_content, parts_inside, writer_rule}
 use Rattle.layout.specs.Change.{Allowed, allowed, denied}
 use Rattle.layout.specs.Edit.{edit_asks}
 use Rattle.layout.specs.Remove.{remove_asks}
-use Rattle.accept.specs.declared.Taken.{Taken}
-use Rattle.accept.specs.declared.Taken.TheVariants.{Isnt}
+use Rattle.accept.specs.Answers.{Taken}
 use Rattle.accept.specs.Taken.{taken}
+use Rattle.editor.specs.declared.Entries.{Entries}
 use Rattle.editor.specs.declared.Fresh.{Fresh}
 use Rattle.editor.specs.declared.Fresh.TheVariants.{Nothing, Value, Entry}
-use Rattle.editor.specs.declared.New.{New}
-use Rattle.editor.specs.declared.New.TheVariants.{Seen, Goes}
+use Rattle.editor.specs.Answers.{New}
 
 -- ---- what is laid
 
--- the bytes that are new among those of entries: none; those that say a value's length, with the value; or those of a whole entry
-abbrev pub fresh_bytes : Shape → Fresh → List ℕ → List ℕ → List ℕ
-fresh_bytes S Nothing key v = []
-fresh_bytes S (Value c) key v = S.lens c (length v) ++ v
-fresh_bytes S (Entry c) key v = S.opening c key ++ (S.lens c (length v) ++ v)
+-- a value of an entry of this code, after the bytes that say its length
+abbrev pub value_bytes : Shape → ℕ → List ℕ → List ℕ
+value_bytes S c v = S.lens c (length v) ++ v
+
+-- the bytes that are new among those of entries: none; a value's; or those of a whole entry
+abbrev pub fresh_bytes : Shape → Fresh → List ℕ
+fresh_bytes S Nothing = []
+fresh_bytes S (Value c v) = value_bytes S c v.now
+fresh_bytes S (Entry c key v) = S.opening c key.now ++ value_bytes S c v.now
 
 -- they can be put: a code is a byte, and a value meets the rule on lengths
-abbrev pub Puttable : Shape → Fresh → List ℕ → Type 0
-Puttable S Nothing v = Unit {0}
-Puttable S (Value c) v = S.length_rule c (length v) ≡ true
-Puttable S (Entry c) v = (c < 256) × (S.length_rule c (length v) ≡ true)
+abbrev pub Puttable : Shape → Fresh → Type 0
+Puttable S Nothing = Unit {0}
+Puttable S (Value c v) = S.length_rule c (length v.now) ≡ true
+Puttable S (Entry c key v) = (c < 256) × (S.length_rule c (length v.now) ≡ true)
 
 -- bytes of entries: those that stay in front, the new ones, and those that stay after them
-unfoldable pub spliced : Shape → Fresh → List ℕ → List ℕ → List ℕ → List ℕ → List ℕ
-spliced S x key v front after = (front ++ fresh_bytes S x key v) ++ after
+unfoldable pub spliced : (front fresh after : List ℕ) → List ℕ
+spliced front fresh after = (front ++ fresh) ++ after
+
+-- the same, of the parts that the code holds
+abbrev pub entries_of : Shape → Entries → List ℕ
+entries_of S x = spliced x.front.now (fresh_bytes S x.fresh) x.after.now
 
 -- the same, where the entries of an image from `start` to `cut` stay, and those from `next` to `over`
-abbrev pub spliced_at : Shape → Fresh → List ℕ → List ℕ → List ℕ → (start cut next over : ℕ) → List ℕ
-spliced_at S x key v image start cut next over = spliced S x key v (part start (cut - start) image) (part next (over - next) image)
+abbrev pub spliced_at : List ℕ → List ℕ → (start cut next over : ℕ) → List ℕ
+spliced_at fresh image start cut next over = spliced (part start (cut - start) image) fresh (part next (over - next) image)
 
 -- ---- a change of one entry
 
@@ -65,26 +71,26 @@ put_allowed (denied r) S entries out = refuse r out
 -- another value for it: 14, 7, then 12
 unfoldable pub edit_at : Shape → ℕ → List ℕ → (start over p : ℕ) → Frame → List ℕ → List ℕ → Outcome
 edit_at S e image start over p f v out =
-    put_allowed (asked_at (edit_asks S v) S e p f) S (spliced_at S (Value f.code) [] v image start (p + f.at) (p + f.size) over) out
+    put_allowed (asked_at (edit_asks S v) S e p f) S (spliced_at (value_bytes S f.code v) image start (p + f.at) (p + f.size) over) out
 
 -- the entries without it: 14, 11, then 12
 unfoldable pub remove_at : Shape → ℕ → List ℕ → (start over p : ℕ) → Frame → List ℕ → Outcome
-remove_at S e image start over p f out = put_allowed (asked_at (remove_asks S) S e p f) S (spliced_at S Nothing [] [] image start p (p + f.size) over) out
+remove_at S e image start over p f out = put_allowed (asked_at (remove_asks S) S e p f) S (spliced_at [] image start p (p + f.size) over) out
 
 -- ---- a new entry
 
 -- where an entry of this label goes among entries of which the first stands at p: before one that none may follow, and else after the last; or one of them is the same
 unfoldable pub new_at : Shape → Label → List Raw → ℕ → New
-new_at S a [] p = Goes p
+new_at S a [] p = Some p
 new_at S a (r ∷ rs) p =
-    if (same S a (label_of (content r))) (λ _. Seen)
-    (λ _. if (S.last r.frame.code) (λ _. Goes p) (λ _. new_at S a rs (p + r.frame.size)))
+    if (same S a (label_of (content r))) (λ _. None)
+    (λ _. if (S.last r.frame.code) (λ _. Some p) (λ _. new_at S a rs (p + r.frame.size)))
 
 -- 8, then 12
 abbrev pub add_new : New → Shape → List ℕ → ℕ → ℕ → Field → List ℕ → List ℕ → Outcome
-add_new Seen S image start over x values out = refuse (refusal 8 0) out
-add_new (Goes at) S image start over x values out =
-    put S (image_of S (spliced_at S (Entry x.code) (field_content S values x).key (field_content S values x).value image start at at over)) out
+add_new None S image start over x values out = refuse (refusal 8 0) out
+add_new (Some at) S image start over x values out =
+    put S (image_of S (spliced_at (entry_bytes S (field_content S values x)) image start at at over)) out
 
 -- the entry of a field, among these entries: 13, 14, 7, 8, then 12
 unfoldable pub add_at : Shape → ℕ → List ℕ → ℕ → ℕ → List Raw → Field → List ℕ → List ℕ → Outcome
@@ -101,8 +107,8 @@ add_at S e image start over rs x values out =
 
 -- the refusal where the output is too long: 16, 1, then 2
 abbrev pub too_long_by : Chosen → Taken
-too_long_by (Known f) = Isnt (refusal 2 0)
-too_long_by (Unknown n) = Isnt (refusal n 0)
+too_long_by (Ok f) = Err (refusal 2 0)
+too_long_by (Err n) = Err (refusal n 0)
 
 -- an image that is to be changed into an output of n bytes
 unfoldable pub taken_for : ℕ → ℕ → ℕ → List ℕ → Taken

@@ -1,5 +1,6 @@
 // What a field list in lent bytes says: its fields, and the parts of the lent values that a field names.
-#![tactic(auto)]
+// The goals are tried with the formats opened.
+#![tactic(auto, unfolding(layout::specs::Fboss::fboss, layout::specs::Vpd::vpd, layout::specs::Tiny::tiny, layout::specs::Onie::onie))]
 
 ghost use Rattle.std.specs.Prelude.{◌≡◌, ◌+◌, ◌≤◌, ◌<◌, length, get_or, [], leb};
 ghost use Rattle.layout.specs.Bytes.{if, part, part_at};
@@ -8,31 +9,23 @@ ghost use Rattle.layout.specs.Write.{word, field_at, fields_in, field_key, parts
 
 use layout::{Field, Format, Part, Place};
 
-fn wide(x: u8) -> u32
-    ensures { (result ≡ x) × (result < 256) }
-{
-    x as u32
-}
-
 // The number at `a`, four bytes, low byte first.
 fn word_at(s: &[u8], a: usize) -> u32
     requires { a + 4 ≤ length s.now }
     ensures { result ≡ word a s.now }
 {
-    wide(s[a]) + wide(s[a + 1]) * 256 + wide(s[a + 2]) * 65536 + wide(s[a + 3]) * 16777216
+    u32::from_le_bytes([s[a], s[a + 1], s[a + 2], s[a + 3]])
 }
 
 // The number at `a`, and 0 where its four bytes are not all there.
 pub fn word_in(s: &[u8], a: usize) -> u32
     ensures { result ≡ if (leb (a + 4) (length s.now)) (λ _. word a s.now) (λ _. 0) }
 {
-    if s.len() < 4 {
-        return 0;
+    if parts::is_inside(s.len(), a, 4) {
+        word_at(s, a)
+    } else {
+        0
     }
-    if s.len() - 4 < a {
-        return 0;
-    }
-    word_at(s, a)
 }
 
 // The place and the length at `a`, four bytes each.
@@ -40,9 +33,8 @@ fn part_at(s: &[u8], a: usize) -> Part
     requires { a + 8 ≤ length s.now }
     ensures { result ≡ part_at (word a s.now) (word (a + 4) s.now) }
 {
-    let place = word_at(s, a) as usize;
     Part {
-        place: Place(place),
+        place: Place(word_at(s, a) as usize),
         len: word_at(s, a + 4) as usize,
     }
 }
@@ -60,20 +52,21 @@ pub fn field_at(fields: &[u8], i: usize) -> Field
 {
     if i < fields.len() / 20 {
         let at = i * 20;
-        return Field {
+        Field {
             code: word_at(fields, at),
             key: part_at(fields, at + 4),
             value: part_at(fields, at + 12),
+        }
+    } else {
+        let none = Part {
+            place: Place(0),
+            len: 0,
         };
-    }
-    let none = Part {
-        place: Place(0),
-        len: 0,
-    };
-    Field {
-        code: 0,
-        key: none,
-        value: none,
+        Field {
+            code: 0,
+            key: none,
+            value: none,
+        }
     }
 }
 
@@ -81,10 +74,7 @@ pub fn field_at(fields: &[u8], i: usize) -> Field
 fn bytes_of(values: &[u8], x: Part) -> &[u8]
     ensures { result.now ≡ part x.place.0 x.len values.now }
 {
-    let place = x.place;
-    let at = place.0;
-    let len = x.len;
-    frames::part_of(values, at, len)
+    frames::part_of(values, x.place.0, x.len)
 }
 
 // The key of a field: outside VPD it counts as empty.
@@ -92,13 +82,8 @@ pub fn field_key(format: Format, values: &[u8], x: Field) -> &[u8]
     ensures { result.now ≡ field_key (shape format).keyed x values.now }
 {
     match format {
-        Format::Vpd => {
-            let key = x.key;
-            bytes_of(values, key)
-        }
-        Format::Fboss => &values[..0],
-        Format::Tiny => &values[..0],
-        Format::Onie => &values[..0],
+        Format::Vpd => bytes_of(values, x.key),
+        Format::Fboss | Format::Tiny | Format::Onie => &[],
     }
 }
 
@@ -106,29 +91,23 @@ pub fn field_key(format: Format, values: &[u8], x: Field) -> &[u8]
 pub fn field_value(values: &[u8], x: Field) -> &[u8]
     ensures { result.now ≡ part x.value.place.0 x.value.len values.now }
 {
-    let value = x.value;
-    bytes_of(values, value)
+    bytes_of(values, x.value)
 }
 
 // Whether a part lies inside n bytes.
 fn is_inside(x: Part, n: usize) -> bool
     ensures { result ≡ leb (x.place.0 + x.len) n }
 {
-    let place = x.place;
-    let at = place.0;
-    parts::is_inside(n, at, x.len)
+    parts::is_inside(n, x.place.0, x.len)
 }
 
 // Whether the parts of a field lie inside the values; outside VPD the key is not looked at.
 pub fn parts_inside(format: Format, values: &[u8], x: Field) -> bool
     ensures { result ≡ parts_inside (shape format).keyed x values.now }
 {
-    let key = x.key;
-    let value = x.value;
+    let n = values.len();
     match format {
-        Format::Vpd => is_inside(key, values.len()) & is_inside(value, values.len()),
-        Format::Fboss => is_inside(value, values.len()),
-        Format::Tiny => is_inside(value, values.len()),
-        Format::Onie => is_inside(value, values.len()),
+        Format::Vpd => is_inside(x.key, n) && is_inside(x.value, n),
+        Format::Fboss | Format::Tiny | Format::Onie => is_inside(x.value, n),
     }
 }

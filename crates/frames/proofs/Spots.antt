@@ -8,9 +8,11 @@ use native.Mathlib.Omega.{arith}
 use native.Mathlib.Nat.{add-zero}
 use lib.ListN.{length, take, drop, length-append, length-take, length-drop}
 use lib.Seq.{take_at, drop_at}
+use Rattle.std.specs.Prelude.{Ok, Err, Some, None}
+use Rattle.std.specs.declared.option.Option.{Option}
 use Rattle.layout.specs.declared.Format.{Format}
 use Rattle.layout.specs.declared.Frame.{Frame}
-use Rattle.layout.specs.declared.Next.TheVariants.{Framed, Ended, Broken}
+use Rattle.layout.specs.Answers.{Next}
 use Rattle.layout.specs.Bytes.{part}
 use Rattle.layout.specs.Shape.{Shape, next}
 use Rattle.layout.specs.Editions.{shape}
@@ -22,14 +24,17 @@ use Rattle.laws.proofs.Formats.{laws}
 use Rattle.laws.proofs.Frames.{raw_of, IsRaw, raw-size, raw-reads, framed-in, next-ends}
 use Rattle.laws.proofs.Passes.{part-on}
 use Rattle.laws.proofs.Walking.{Frames, EndsAt, walk-decode, decoded-ends}
-use Rattle.frames.specs.declared.Spot.{Spot}
-use Rattle.frames.specs.declared.Spot.TheVariants.{At, Nowhere}
+use Rattle.frames.specs.Answers.{Spot}
 use Rattle.frames.specs.Spots.{spot_at}
 
 -- ---- one step
 
+-- what stands at a place is what a call found there: a frame, or that there is none
+pub found-there : {x y : Next} {r s : Option Frame} → x ≡ y → x ≡ Ok r → r ≡ s → y ≡ Ok s
+found-there is ok inner = sym is ∙ ok ∙ ap Ok inner
+
 -- a frame that is read at p ends inside the image and inside the room
-pub framed-inside : (g : Format) (shut : Bool) (image : List ℕ) (p end : ℕ) (f : Frame) → next (shape g) shut (part p (end - p) image) ≡ Framed f →
+pub framed-inside : (g : Format) (shut : Bool) (image : List ℕ) (p end : ℕ) (f : Frame) → next (shape g) shut (part p (end - p) image) ≡ Ok (Some f) →
     (0 < f.size) × (p + f.size ≤ length image) × (p + f.size ≤ end)
 unfolding part
 framed-inside g shut image p end f q =
@@ -40,23 +45,23 @@ framed-inside g shut image p end f q =
 
 module _ (S : Shape) (image : List ℕ) (shut : Bool) (p end n : ℕ) where
   -- it stands at the entry that is sought
-  pub spot-found : (f : Frame) → next S shut (part p (end - p) image) ≡ Framed f → n ≡ 0 → spot_at S image shut p end n ≡ At f p
+  pub spot-found : (f : Frame) → next S shut (part p (end - p) image) ≡ Ok (Some f) → n ≡ 0 → spot_at S image shut p end n ≡ Some (f, p)
   unfolding spot_at
   spot-found f q z = rw (z, q)
 
   -- it passes an entry
-  pub spot_on : (f : Frame) (left : ℕ) → next S shut (part p (end - p) image) ≡ Framed f → n ≡ suc left →
+  pub spot_on : (f : Frame) (left : ℕ) → next S shut (part p (end - p) image) ≡ Ok (Some f) → n ≡ suc left →
       spot_at S image shut p end n ≡ spot_at S image (S.last f.code) (p + f.size) end left
   unfolding spot_at
   spot_on f left q z = rw (z, q)
 
 -- no entry is left
-pub spot-ended : (S : Shape) (image : List ℕ) (shut : Bool) (p end n : ℕ) → next S shut (part p (end - p) image) ≡ Ended → spot_at S image shut p end n ≡ Nowhere
+pub spot-ended : (S : Shape) (image : List ℕ) (shut : Bool) (p end n : ℕ) → next S shut (part p (end - p) image) ≡ Ok None → spot_at S image shut p end n ≡ None
 unfolding spot_at
 spot-ended S image shut p end zero q = rw q
 spot-ended S image shut p end (suc n) q = rw q
 
-pub spot-broken : (S : Shape) (image : List ℕ) (shut : Bool) (p end n k : ℕ) → next S shut (part p (end - p) image) ≡ Broken k → spot_at S image shut p end n ≡ Nowhere
+pub spot-broken : (S : Shape) (image : List ℕ) (shut : Bool) (p end n k : ℕ) → next S shut (part p (end - p) image) ≡ Err k → spot_at S image shut p end n ≡ None
 unfolding spot_at
 spot-broken S image shut p end zero k q = rw q
 spot-broken S image shut p end (suc n) k q = rw q
@@ -80,21 +85,21 @@ pub record Spotted (S : Shape) (G : Grammar) (image : List ℕ) (end : ℕ) (ent
   pub is_raw : IsRaw G raw
   -- how it was read
   pub shut : Bool
-  pub read : next S shut (part q (end - q) image) ≡ Framed f
+  pub read : next S shut (part q (end - q) image) ≡ Ok (Some f)
   pub is : raw ≡ raw_of f (part q (end - q) image)
 
 -- what is said of an entry that is found, and what where there is none
 abbrev pub OnSpot : (Frame → ℕ → Type 0) → Type 0 → Spot → Type 0
-OnSpot P Q (At f q) = P f q
-OnSpot P Q Nowhere = Q
+OnSpot P Q (Some (f, q)) = P f q
+OnSpot P Q None = Q
 
 on-spot : {P P' : Frame → ℕ → Type 0} {Q Q' : Type 0} (x : Spot) → ((f : Frame) (q : ℕ) → P f q → P' f q) → (Q → Q') → OnSpot P Q x → OnSpot P' Q' x
-on-spot (At f q) i j h = i f q h
-on-spot Nowhere i j h = j h
+on-spot (Some (f, q)) i j h = i f q h
+on-spot None i j h = j h
 
 -- where entries and their end fill the room, the search gives entry n of them, or nothing where there are no more than n
 module _ {S : Shape} {G : Grammar} (L : Laws S G) (image : List ℕ) (end : ℕ) (rest : List ℕ) (ends : EndsAt S rest) where
-  reads : (shut : Bool) (r : Raw) (rs : List Raw) (p : ℕ) → shut ≡ false → IsRaw G r → part p (end - p) image ≡ r.bytes ++ (flat rs ++ rest) → next S shut (part p (end - p) image) ≡ Framed r.frame
+  reads : (shut : Bool) (r : Raw) (rs : List Raw) (p : ℕ) → shut ≡ false → IsRaw G r → part p (end - p) image ≡ r.bytes ++ (flat rs ++ rest) → next S shut (part p (end - p) image) ≡ Ok (Some r.frame)
   reads shut r rs p o i room = rw (room, o) (raw-reads L r (flat rs ++ rest) i)
 
   spot-here : (shut : Bool) (r : Raw) (rs : List Raw) (p : ℕ) → shut ≡ false → IsRaw G r → part p (end - p) image ≡ r.bytes ++ (flat rs ++ rest) → Spotted S G image end (r ∷ rs) p 0 r.frame p

@@ -1,5 +1,5 @@
 // What a call's format and edition come to, and what stands at a place of an image, for any format.
-#![tactic(auto)]
+#![tactic(auto, unfolding(layout::specs::Bytes::one_of, layout::specs::Bytes::part, layout::specs::Bytes::same_bytes, layout::specs::Shape::next, layout::specs::Fboss::fboss, layout::specs::Vpd::vpd, layout::specs::Vpd::vpd_twice, layout::specs::Tiny::tiny, layout::specs::Onie::onie, layout::specs::Editions::chosen, layout::specs::Editions::kind, layout::specs::Editions::names, layout::specs::Editions::since_in, layout::specs::Read::sealed, laws::specs::Marked::all_marked))]
 
 ghost use Rattle.std.specs.Prelude.{◌≡◌, false, ◌-◌, ◌*◌, ◌≤◌};
 ghost use Rattle.layout.specs.Bytes.{if, one_of, part};
@@ -9,23 +9,14 @@ ghost use Rattle.layout.specs.Read.{sealed, same};
 ghost use Rattle.laws.specs.Marked.{all_marked};
 ghost use Rattle.frames.specs.Spots.{spot_at};
 
-use layout::{Chosen, Format, Frame, Head, Headed, Length, Next, Opened, Reading};
-
-// Where an entry stands: its frame, and the place of its first byte.
-#[derive(Clone, Copy)]
-pub enum Spot {
-    At(Frame, usize),
-    Nowhere,
-}
+use layout::{Format, Frame, Head, Reading, Refusal};
 
 // The first edition that has the format.
 fn first_edition(format: Format) -> u32
     ensures { result ≡ (shape format).edition }
 {
     match format {
-        Format::Fboss => 1,
-        Format::Vpd => 1,
-        Format::Tiny => 1,
+        Format::Fboss | Format::Vpd | Format::Tiny => 1,
         Format::Onie => 3,
     }
 }
@@ -34,91 +25,48 @@ fn first_edition(format: Format) -> u32
 pub fn is_edition(edition: u32) -> bool
     ensures { result ≡ known_edition edition }
 {
-    (1 <= edition) & (edition <= 4)
+    (1..=4).contains(&edition)
 }
 
 // A format, where the edition is known and has it.
-fn with_edition(edition: u32, format: Format) -> Chosen
+fn with_edition(edition: u32, format: Format) -> Result<Format, u32>
     ensures { result ≡ with_edition edition format }
 {
-    if is_edition(edition) {
-        if first_edition(format) <= edition {
-            return Chosen::Known(format);
-        }
-        return Chosen::Unknown(16);
+    if !is_edition(edition) {
+        return Err(1);
     }
-    Chosen::Unknown(1)
+    if edition < first_edition(format) {
+        return Err(16);
+    }
+    Ok(format)
 }
 
 // The format and edition of a call: 16 for a number that is no format's, then 1, then 16 for a format that the edition does not have.
-pub fn choose(format: u32, edition: u32) -> Chosen
+pub fn choose(format: u32, edition: u32) -> Result<Format, u32>
     ensures { result ≡ chosen format edition }
 {
-    if format == 1 {
-        return with_edition(edition, Format::Fboss);
+    match format {
+        1 => with_edition(edition, Format::Fboss),
+        2 => with_edition(edition, Format::Vpd),
+        3 => with_edition(edition, Format::Tiny),
+        4 => with_edition(edition, Format::Onie),
+        _ => Err(16),
     }
-    if format == 2 {
-        return with_edition(edition, Format::Vpd);
-    }
-    if format == 3 {
-        return with_edition(edition, Format::Tiny);
-    }
-    if format == 4 {
-        return with_edition(edition, Format::Onie);
-    }
-    Chosen::Unknown(16)
 }
 
 // Whether the edition names the code.
 pub fn is_named(format: Format, edition: u32, code: u32) -> bool
     ensures { result ≡ names (shape format) edition code }
 {
-    match format {
-        Format::Fboss => {
-            if (1 <= code) & (code <= 16) {
-                return 1 <= edition;
-            }
-            if (17 <= code) & (code <= 20) {
-                return 2 <= edition;
-            }
-            false
-        }
-        Format::Vpd => {
-            if (0x01 <= code) & (code <= 0x01) {
-                return 1 <= edition;
-            }
-            if (0xFE <= code) & (code <= 0xFE) {
-                return 2 <= edition;
-            }
-            false
-        }
-        Format::Tiny => {
-            if (0x01 <= code) & (code <= 0x01) {
-                return 1 <= edition;
-            }
-            if (0x10 <= code) & (code <= 0x11) {
-                return 1 <= edition;
-            }
-            if (0x60 <= code) & (code <= 0x62) {
-                return 1 <= edition;
-            }
-            if (0x80 <= code) & (code <= 0x81) {
-                return 2 <= edition;
-            }
-            false
-        }
-        Format::Onie => {
-            if (0x21 <= code) & (code <= 0x25) {
-                return 3 <= edition;
-            }
-            if (0x2A <= code) & (code <= 0x2D) {
-                return 3 <= edition;
-            }
-            if (0xFD <= code) & (code <= 0xFD) {
-                return 3 <= edition;
-            }
-            false
-        }
+    match (format, code) {
+        (Format::Fboss, 1..=16) => 1 <= edition,
+        (Format::Fboss, 17..=20) => 2 <= edition,
+        (Format::Vpd, 0x01) => 1 <= edition,
+        (Format::Vpd, 0xFE) => 2 <= edition,
+        (Format::Tiny, 0x01 | 0x10..=0x11 | 0x60..=0x62) => 1 <= edition,
+        (Format::Tiny, 0x80..=0x81) => 2 <= edition,
+        (Format::Onie, 0x21..=0x25 | 0x2A..=0x2D | 0xFD) => 3 <= edition,
+        _ => false,
     }
 }
 
@@ -139,9 +87,10 @@ pub fn kind_of(format: Format, edition: u32, code: u32) -> u32
     ensures { result ≡ kind (shape format) edition code }
 {
     if is_named(format, edition, code) {
-        return kind_base(format) + code;
+        kind_base(format) + code
+    } else {
+        0
     }
-    0
 }
 
 // Whether no entry may follow one of this code.
@@ -149,20 +98,18 @@ pub fn is_last(format: Format, code: u32) -> bool
     ensures { result ≡ (shape format).last code }
 {
     match format {
-        Format::Fboss => false,
-        Format::Vpd => false,
         Format::Tiny => code == 0x01,
-        Format::Onie => false,
+        Format::Fboss | Format::Vpd | Format::Onie => false,
     }
 }
 
 // Where the entries of an image are.
-pub fn open_image(format: Format, image: &[u8]) -> Opened
+pub fn open_image(format: Format, image: &[u8]) -> Result<(usize, usize), Refusal>
     ensures { result ≡ (shape format).opened image.now }
 {
     match format {
         Format::Fboss => fboss::fboss_opened(image),
-        Format::Vpd => Opened::Room(0, image.len()),
+        Format::Vpd => Ok((0, image.len())),
         Format::Tiny => tiny::tiny_opened(image),
         Format::Onie => onie::onie_opened(image),
     }
@@ -172,68 +119,54 @@ pub fn open_image(format: Format, image: &[u8]) -> Opened
 pub fn part_of(s: &[u8], at: usize, n: usize) -> &[u8]
     ensures { result.now ≡ part at n s.now }
 {
-    if s.len() <= at {
-        return &s[..0];
+    match s.get(at..) {
+        Some(rest) => rest.get(..n).unwrap_or(rest),
+        None => &s[..0],
     }
-    if s.len() - at < n {
-        return &s[at..];
-    }
-    let end = at + n;
-    &s[at..end]
 }
 
-fn length_of(format: Format, s: &[u8], h: Head) -> Length
+fn length_of(format: Format, s: &[u8], h: Head) -> Result<(usize, usize), u32>
     ensures { result ≡ (shape format).vlen h s.now }
 {
     match format {
-        Format::Fboss => parts::byte_length(s, h),
-        Format::Vpd => {
-            let at = h.at;
-            vpd::group_length(s, at)
-        }
+        Format::Fboss | Format::Onie => parts::byte_length(s, h),
+        Format::Vpd => vpd::group_length(s, h.at),
         Format::Tiny => tiny::tiny_length(s, h),
-        Format::Onie => parts::byte_length(s, h),
     }
 }
 
 // The frame at the front of s that has this head and this length.
-fn on_length(l: Length, h: Head, s: &[u8]) -> Next
+fn on_length(l: Result<(usize, usize), u32>, h: Head, s: &[u8]) -> Result<Option<Frame>, u32>
     ensures { result ≡ on_length l h s.now }
 {
-    match l {
-        Length::Fails(k) => Next::Broken(k),
-        Length::Reads(v, j) => {
-            if parts::is_inside(s.len(), j, v) {
-                Next::Framed(Frame {
-                    code: h.code,
-                    key: h.key,
-                    klen: h.klen,
-                    at: h.at,
-                    val: j,
-                    vlen: v,
-                    size: j + v,
-                })
-            } else {
-                Next::Broken(5)
-            }
-        }
+    let (v, j) = l?;
+    if !parts::is_inside(s.len(), j, v) {
+        return Err(5);
     }
+    Ok(Some(Frame {
+        code: h.code,
+        key: h.key,
+        klen: h.klen,
+        at: h.at,
+        val: j,
+        vlen: v,
+        size: j + v,
+    }))
 }
 
 // The frame at the front of s, where x is what opens an entry there.
-fn on_head(x: Headed, format: Format, s: &[u8]) -> Next
+fn on_head(x: Result<Option<Head>, u32>, format: Format, s: &[u8]) -> Result<Option<Frame>, u32>
     ensures { result ≡ on_head x (shape format) s.now }
 {
-    match x {
-        Headed::Wrong(k) => Next::Broken(k),
-        Headed::Ends => Next::Ended,
-        Headed::Opens(h) => on_length(length_of(format, s, h), h, s),
+    match x? {
+        None => Ok(None),
+        Some(h) => on_length(length_of(format, s, h), h, s),
     }
 }
 
 // The frame at the front of s. `shut`: the entry before was one that none may follow.
 // Each format has a call of its own, so that the compiler makes code for it alone and uses what is the same in all its heads.
-fn frame_of(format: Format, shut: bool, s: &[u8]) -> Next
+fn frame_of(format: Format, shut: bool, s: &[u8]) -> Result<Option<Frame>, u32>
     ensures { result ≡ next (shape format) shut s.now }
 {
     match format {
@@ -244,49 +177,41 @@ fn frame_of(format: Format, shut: bool, s: &[u8]) -> Next
     }
 }
 
-// The room that is left from p on and ends before `end`.
-fn room_at(image: &[u8], p: usize, end: usize) -> &[u8]
-    ensures { result.now ≡ part p (end - p) image.now }
-{
-    if end <= p {
-        return part_of(image, p, 0);
-    }
-    part_of(image, p, end - p)
-}
-
 // What stands at p, in a room that ends before `end`. `frame_of` is called at this one place, so that it is compiled as a part of this function.
-pub fn next_frame(format: Format, shut: bool, image: &[u8], p: usize, end: usize) -> Next
+pub fn next_frame(
+    format: Format,
+    shut: bool,
+    image: &[u8],
+    p: usize,
+    end: usize,
+) -> Result<Option<Frame>, u32>
     ensures { result ≡ next (shape format) shut (part p (end - p) image.now) }
 {
-    frame_of(format, shut, room_at(image, p, end))
+    frame_of(format, shut, part_of(image, p, end.saturating_sub(p)))
 }
 
 // Entry n of those that begin at start, in a room that ends before `end`.
-pub fn find_frame(format: Format, image: &[u8], start: usize, end: usize, n: usize) -> Spot
+pub fn find_frame(
+    format: Format,
+    image: &[u8],
+    start: usize,
+    end: usize,
+    n: usize,
+) -> Option<(Frame, usize)>
     ensures { result ≡ spot_at (shape format) image.now false start end n }
 {
     let mut p = start;
     let mut left = n;
     let mut shut = false;
-    loop {
-        let x = next_frame(format, shut, image, p, end);
-        match x {
-            Next::Framed(f) => {
-                if left == 0 {
-                    return Spot::At(f, p);
-                }
-                shut = is_last(format, f.code);
-                p += f.size;
-                left -= 1;
-            }
-            Next::Ended => {
-                return Spot::Nowhere;
-            }
-            Next::Broken(_) => {
-                return Spot::Nowhere;
-            }
+    while let Ok(Some(f)) = next_frame(format, shut, image, p, end) {
+        if left == 0 {
+            return Some((f, p));
         }
+        shut = is_last(format, f.code);
+        p += f.size;
+        left -= 1;
     }
+    None
 }
 
 // Whether the stored check is right, where the entries end at p.
@@ -306,10 +231,8 @@ pub fn is_filled(format: Format, p: usize, end: usize) -> bool
     ensures { (shape format).filled p end ≡ if result (λ _. fine) (λ _. faulty 5 9) }
 {
     match format {
-        Format::Fboss => true,
-        Format::Vpd => true,
-        Format::Tiny => true,
         Format::Onie => onie::is_filled(p, end),
+        Format::Fboss | Format::Vpd | Format::Tiny => true,
     }
 }
 
@@ -318,10 +241,8 @@ pub fn reader_key(format: Format, code: u32, key: &[u8]) -> bool
     ensures { result ≡ (shape format).reader_key code key.now }
 {
     match format {
-        Format::Fboss => true,
         Format::Vpd => vpd::vpd_reader_key(code, key),
-        Format::Tiny => true,
-        Format::Onie => true,
+        Format::Fboss | Format::Tiny | Format::Onie => true,
     }
 }
 
@@ -330,10 +251,8 @@ pub fn writer_key(format: Format, code: u32, key: &[u8]) -> bool
     ensures { result ≡ (shape format).writer_key code key.now }
 {
     match format {
-        Format::Fboss => true,
         Format::Vpd => vpd::vpd_writer_key(code, key),
-        Format::Tiny => true,
-        Format::Onie => true,
+        Format::Fboss | Format::Tiny | Format::Onie => true,
     }
 }
 
@@ -354,13 +273,8 @@ pub fn is_complete(format: Format, seen: &[u8; 256]) -> bool
     ensures { result ≡ all_marked (shape format).required seen.now }
 {
     match format {
-        Format::Fboss => {
-            (seen[1] != 0)
-                & ((seen[8] != 0) & ((seen[9] != 0) & ((seen[10] != 0) & (seen[11] != 0))))
-        }
-        Format::Vpd => true,
-        Format::Tiny => true,
-        Format::Onie => true,
+        Format::Fboss => [1, 8, 9, 10, 11].iter().all(|code| seen[*code] != 0),
+        Format::Vpd | Format::Tiny | Format::Onie => true,
     }
 }
 
@@ -368,34 +282,19 @@ pub fn is_complete(format: Format, seen: &[u8; 256]) -> bool
 pub fn is_required(format: Format, code: u32) -> bool
     ensures { result ≡ one_of (shape format).required code }
 {
-    match format {
-        Format::Fboss => {
-            (code == 1) | ((code == 8) | ((code == 9) | ((code == 10) | (code == 11))))
-        }
-        Format::Vpd => false,
-        Format::Tiny => false,
-        Format::Onie => false,
-    }
+    matches!((format, code), (Format::Fboss, 1 | 8..=11))
 }
 
 // Whether an entry of this code and key comes a second time where there is one of the code and the key given after them.
 pub fn is_same(format: Format, code: u32, key: &[u8], code2: u32, key2: &[u8]) -> bool
     ensures { result ≡ same (shape format) (record { code = code; key = key.now }) (record { code = code2; key = key2.now }) }
 {
-    if code != code2 {
-        return false;
-    }
-    match format {
-        Format::Fboss => true,
-        Format::Vpd => {
-            if code == 0x01 {
-                return parts::same_bytes(key, key2);
-            }
-            true
+    code == code2
+        && match format {
+            Format::Vpd => code != 0x01 || parts::same_bytes(key, key2),
+            Format::Onie => code != 0xFD,
+            Format::Fboss | Format::Tiny => true,
         }
-        Format::Tiny => true,
-        Format::Onie => code != 0xFD,
-    }
 }
 
 // The reading of a named entry's value.

@@ -7,23 +7,18 @@ ghost use Rattle.keys.specs.Filter.{hash_byte, hashed, word_at, bit_at, mask, ma
 use layout::Format;
 
 // One byte taken into a hash.
+#[tactic(auto, unfolding(crate::specs::Filter::hash_byte))]
 fn hash_byte(h: u32, b: u8) -> u32
     ensures { result ≡ hash_byte h b }
 {
-    ((((h as u64) + (b as u64)) * 0xC2B2AE35) % 4294967296) as u32
+    h.wrapping_add(u32::from(b)).wrapping_mul(0xC2B2AE35)
 }
 
 // The hash of a key, of 32 bits.
 fn hash_key(key: &[u8]) -> u32
     ensures { result ≡ hashed key.now }
 {
-    let mut h: u32 = 5;
-    let mut i = 0;
-    while i < key.len() {
-        h = hash_byte(h, key[i]);
-        i += 1;
-    }
-    h
+    key.iter().fold(5, |h, b| hash_byte(h, *b))
 }
 
 // Which of n words a hash belongs to.
@@ -31,7 +26,7 @@ fn word_at(n: usize, h: u32) -> usize
     requires { 0 < n }
     ensures { (result ≡ word_at n h) × (result < n) }
 {
-    (((h as u64) * ((n % 65536) as u64)) >> 32) as usize
+    ((u64::from(h) * (n % 65536) as u64) >> 32) as usize
 }
 
 // One of the 64 bits of a word.
@@ -42,10 +37,11 @@ fn bit_at(x: u64) -> u64
 }
 
 // The bits of a word that a hash belongs to, at most four.
+#[tactic(auto, unfolding(crate::specs::Filter::mask))]
 fn mask_of(h: u32) -> u64
     ensures { result ≡ mask h }
 {
-    let g = (h as u64) * 0x85EBCA6B;
+    let g = u64::from(h) * 0x85EBCA6B;
     bit_at(g >> 14) | bit_at(g >> 20) | bit_at(g >> 26) | bit_at(g >> 32)
 }
 
@@ -66,6 +62,7 @@ fn set_bits(filter: &mut [u64], key: &[u8]) -> bool
 }
 
 // Notes the key of an entry of code 01h, and tells whether such an entry may have been noted before; of another code nothing is noted.
+#[tactic(auto, unfolding(crate::specs::Filter::may_repeat, crate::specs::Filter::with_key))]
 pub fn note_key(filter: &mut [u64], code: u32, key: &[u8]) -> bool
     ensures { (result ≡ may_repeat filter.old code key.now) × (filter.new ≡ with_key filter.old code key.now) }
 {
@@ -87,26 +84,20 @@ fn key_count(format: Format, count: usize) -> usize
     ensures { result ≡ key_count format count }
 {
     match format {
-        Format::Fboss => 0,
         Format::Vpd => count,
-        Format::Tiny => 0,
-        Format::Onie => 0,
+        Format::Fboss | Format::Tiny | Format::Onie => 0,
     }
 }
 
 // The size of the filter for so many entries, in words: none for three keys or fewer.
+#[tactic(auto, unfolding(crate::specs::Filter::filter_words))]
 pub fn filter_words(format: Format, count: usize) -> usize
     ensures { result ≡ filter_words (key_count format count) }
 {
-    let keys = key_count(format, count);
-    if keys <= 3 {
-        return 0;
+    match key_count(format, count) {
+        0..=3 => 0,
+        keys if keys / 2 <= FEW => FEW,
+        keys if keys / 2 <= MORE => MORE,
+        _ => MANY,
     }
-    if keys / 2 <= FEW {
-        return FEW;
-    }
-    if keys / 2 <= MORE {
-        return MORE;
-    }
-    MANY
 }

@@ -8,9 +8,8 @@ use native.Mathlib.Omega.{arith}
 use lib.ListN.{length, get_or, drop}
 use lib.Dec.{ltb, leb, eqb}
 use borrow.Author.Tests.{ltb-true, lt-ltb, le-leb, leb-true, eqb-false, eq-eqb, ne_eqb}
-use Rattle.layout.specs.declared.Headed.{Headed}
-use Rattle.layout.specs.declared.Headed.TheVariants.{Ends}
-use Rattle.layout.specs.declared.Opened.TheVariants.{Room}
+use Rattle.std.specs.Prelude.{Ok, None}
+use Rattle.layout.specs.Answers.{Headed}
 use Rattle.layout.specs.Bytes.{part}
 use Rattle.layout.specs.Shape.{fine, coded_head, Coded, coded}
 use Rattle.layout.specs.Editions.{names}
@@ -55,7 +54,7 @@ module _ (takes : ℕ → Type 0) (end size : ℕ) where
       (λ _. tt)
 
 -- The closing ends the entries, where its value is there and its code is none of those that are none.
-pub closing-ends : (end size : ℕ) (t : List ℕ) → (end ≡ 0 → ⊥) → (end ≡ 255 → ⊥) → size ≤ length t → coded_head end size (end ∷ size ∷ t) ≡ Ends
+pub closing-ends : (end size : ℕ) (t : List ℕ) → (end ≡ 0 → ⊥) → (end ≡ 255 → ⊥) → size ≤ length t → coded_head end size (end ∷ size ∷ t) ≡ Ok None
 unfolding coded_head
 closing-ends end size t not0 not255 le =
     let s : List ℕ = end ∷ size ∷ t in
@@ -77,7 +76,7 @@ pub record Rooms (K : Coded) (takes : ℕ → Type 0) : Type 1 where
   pub takes_made : (entries : List ℕ) → length (image_of (coded K) entries) ≤ K.most → takes (length entries)
   pub made : (entries t : List ℕ) → takes (length entries) →
       Holds (coded K) (K.header (length entries) ++ (entries ++ (K.end ∷ K.size ∷ (K.check (K.header (length entries) ++ entries) ++ t)))) entries
-  pub sound : (image entries rest : List ℕ) (start end : ℕ) → K.opened image ≡ Room start end → part start (end - start) image ≡ entries ++ rest →
+  pub sound : (image entries rest : List ℕ) (start end : ℕ) → K.opened image ≡ Ok (start, end) → part start (end - start) image ≡ entries ++ rest →
       rest ≡ K.end ∷ K.size ∷ drop 2 rest → 2 + K.size ≤ length rest → K.filled (start + length entries) end ≡ fine →
       (start ≡ length (K.header (length entries))) × Wholly (coded K) (coded_grammar K.end K.size takes) image entries
 

@@ -5,10 +5,8 @@ use mathlib.Core.Path.{◌≡◌}
 use mathlib.Core.List.{List, [], ◌∷◌, ◌++◌}
 use mathlib.Core.Bool.{Bool, true, false}
 use lib.ListN.{length, drop}
+use Rattle.std.specs.Prelude.{Ok, Some, None}
 use Rattle.layout.specs.declared.Head.{Head}
-use Rattle.layout.specs.declared.Headed.TheVariants.{Opens, Ends}
-use Rattle.layout.specs.declared.Length.TheVariants.{Reads}
-use Rattle.layout.specs.declared.Opened.TheVariants.{Room}
 use Rattle.layout.specs.Bytes.{part}
 use Rattle.layout.specs.Shape.{Shape, fine}
 use Rattle.layout.specs.Editions.{names}
@@ -48,9 +46,9 @@ pub record KeyLast (front key : List ℕ) : Type 0 where
 pub record Holds (S : Shape) (image entries : List ℕ) : Type 0 where
   pub end : ℕ
   pub rest : List ℕ
-  pub opened : S.opened image ≡ Room (length (S.header (length entries))) end
+  pub opened : S.opened image ≡ Ok ((length (S.header (length entries))), end)
   pub room : part (length (S.header (length entries))) (end - length (S.header (length entries))) image ≡ entries ++ rest
-  pub ends : (b : Bool) → S.head b rest ≡ Ends
+  pub ends : (b : Bool) → S.head b rest ≡ Ok None
   pub filled : S.filled (length (S.header (length entries)) + length entries) end ≡ fine
 
 -- an image is a header, these entries, which may have so many bytes, a closing and a rest
@@ -66,16 +64,16 @@ pub record Laws (S : Shape) (G : Grammar) : Type 1 where
   pub opening_key : (front key : List ℕ) (c : ℕ) → G.Opening front c key → KeyLast front key
   pub opening_first : (front key : List ℕ) (c : ℕ) → G.Opening front c key → (rest : List ℕ) × (front ≡ c ∷ rest)
   pub keyless : (front key : List ℕ) (c : ℕ) → S.keyed ≡ false → G.Opening front c key → key ≡ []
-  pub head_sound : (b : Bool) (s : List ℕ) (h : Head) → S.head b s ≡ Opens h → Begins G s h
-  pub head_complete : (front key t : List ℕ) (c : ℕ) → G.Opening front c key → S.head false (front ++ t) ≡ Opens (head_from front c key)
+  pub head_sound : (b : Bool) (s : List ℕ) (h : Head) → S.head b s ≡ Ok (Some h) → Begins G s h
+  pub head_complete : (front key t : List ℕ) (c : ℕ) → G.Opening front c key → S.head false (front ++ t) ≡ Ok (Some (head_from front c key))
   -- after an entry that none may follow nothing opens
-  pub head_shut : (c : ℕ) (s : List ℕ) (h : Head) → S.last c ≡ true → S.head true s ≡ Opens h → ⊥
+  pub head_shut : (c : ℕ) (s : List ℕ) (h : Head) → S.last c ≡ true → S.head true s ≡ Ok (Some h) → ⊥
   -- entries end there whatever came before
-  pub head_ends : (b c : Bool) (s : List ℕ) → S.head b s ≡ Ends → S.head c s ≡ Ends
+  pub head_ends : (b c : Bool) (s : List ℕ) → S.head b s ≡ Ok None → S.head c s ≡ Ok None
   -- lengths
-  pub vlen_sound : (s : List ℕ) (h : Head) (v j : ℕ) → h.at ≤ length s → S.vlen h s ≡ Reads v j → Goes G s h v j
+  pub vlen_sound : (s : List ℕ) (h : Head) (v j : ℕ) → h.at ≤ length s → S.vlen h s ≡ Ok (v, j) → Goes G s h v j
   pub vlen_complete : (a lens t : List ℕ) (h : Head) (v : ℕ) → length a ≡ h.at → G.Says h.code lens v →
-      S.vlen h (a ++ (lens ++ t)) ≡ Reads v (h.at + length lens)
+      S.vlen h (a ++ (lens ++ t)) ≡ Ok (v, (h.at + length lens))
   -- what is written
   pub opening_made : (e c : ℕ) (key : List ℕ) → names S e c ≡ true → length key ≤ limit → (S.keyed ≡ false → key ≡ []) → G.Opening (S.opening c key) c key
   pub opening_long : (c : ℕ) (key : List ℕ) → (S.keyed ≡ false → key ≡ []) → length key ≤ length (S.opening c key)
@@ -92,6 +90,6 @@ pub record Laws (S : Shape) (G : Grammar) : Type 1 where
   pub room_made : (entries z t : List ℕ) → G.Closing z → G.Takes (length entries) →
       let image = S.header (length entries) ++ (entries ++ (z ++ (S.check (S.header (length entries) ++ entries) ++ t))) in
       Holds S image entries
-  pub room_sound : (b : Bool) (image entries rest : List ℕ) (start end : ℕ) → S.opened image ≡ Room start end →
-      part start (end - start) image ≡ entries ++ rest → S.head b rest ≡ Ends → S.filled (start + length entries) end ≡ fine →
+  pub room_sound : (b : Bool) (image entries rest : List ℕ) (start end : ℕ) → S.opened image ≡ Ok (start, end) →
+      part start (end - start) image ≡ entries ++ rest → S.head b rest ≡ Ok None → S.filled (start + length entries) end ≡ fine →
       (start ≡ length (S.header (length entries))) × Wholly S G image entries

@@ -9,13 +9,10 @@ use lib.ListN.{length, take, drop, length-append, length-take}
 use lib.Seq.{take_at, drop_at, take-append-add, length-take-le}
 use lib.Dec.{leb}
 use borrow.Author.Tests.{leb-true, le-leb}
+use Rattle.std.specs.Prelude.{Ok, Err, Some, None}
 use Rattle.layout.specs.declared.Head.{Head}
-use Rattle.layout.specs.declared.Headed.{Headed}
-use Rattle.layout.specs.declared.Headed.TheVariants.{Opens, Ends, Wrong}
-use Rattle.layout.specs.declared.Length.{Length}
-use Rattle.layout.specs.declared.Length.TheVariants.{Reads, Fails}
+use Rattle.layout.specs.Answers.{Headed, Length, Next}
 use Rattle.layout.specs.declared.Frame.{Frame}
-use Rattle.layout.specs.declared.Next.TheVariants.{Framed, Ended, Broken}
 use Rattle.layout.specs.Bytes.{if, part}
 use Rattle.layout.specs.Shape.{Shape, frame_of, on_length, on_head, next}
 use Rattle.layout.specs.Walk.{Raw, content}
@@ -62,13 +59,13 @@ part-key front key t k =
     rw whole (part-between k.before key t (length front - length key) (omega (arith, length-append k.before key, ap length k.joined)))
 
 -- where the head says that the entries end, no frame stands
-pub next-ends : (S : Shape) (b : Bool) (s : List ℕ) → S.head b s ≡ Ends → next S b s ≡ Ended
+pub next-ends : (S : Shape) (b : Bool) (s : List ℕ) → S.head b s ≡ Ok None → next S b s ≡ Ok None
 unfolding next
 next-ends S b s e = rw e
 
 module _ {S : Shape} {G : Grammar} (L : Laws S G) where
   -- an entry of the grammar is read as its frame, whatever follows
-  pub raw-reads : (r : Raw) (t : List ℕ) → IsRaw G r → next S false (r.bytes ++ t) ≡ Framed r.frame
+  pub raw-reads : (r : Raw) (t : List ℕ) → IsRaw G r → next S false (r.bytes ++ t) ≡ Ok (Some r.frame)
   unfolding next
   raw-reads r t i =
       let v = i.value in
@@ -106,7 +103,7 @@ module _ {S : Shape} {G : Grammar} (L : Laws S G) where
       }
 
   read-room : (s : List ℕ) (h : Head) (v j : ℕ) (f : Frame) (t : Bool) → leb (j + v) (length s) ≡ t → Begins G s h → Goes G s h v j →
-      if t (λ _. Framed (frame_of h v j)) (λ _. Broken 5) ≡ Framed f → IsRaw G (raw_of f s)
+      if {A = Next} t (λ _. Ok (Some (frame_of h v j))) (λ _. Err 5) ≡ Ok (Some f) → IsRaw G (raw_of f s)
   read-room s h v j f false e b g q = let z : ◌≡◌ {A = ℕ} 0 1 = cc in absurd (omega arith)
   read-room s h v j f true e b g q =
       let at : h.at ≡ length b.front = ap (λ (x : Head). x.at) b.says in
@@ -118,20 +115,20 @@ module _ {S : Shape} {G : Grammar} (L : Laws S G) where
       rw (same, whole)
       (read_made b.front g.lens g.rest b.key h.code v b.opens g.says (let r = leb-true (j + v) (length s) e in omega (arith, g.ends)))
 
-  read_length : (s : List ℕ) (h : Head) (f : Frame) (x : Length) → S.vlen h s ≡ x → Begins G s h → on_length x h s ≡ Framed f → IsRaw G (raw_of f s)
-  read_length s h f (Reads v j) e b q =
+  read_length : (s : List ℕ) (h : Head) (f : Frame) (x : Length) → S.vlen h s ≡ x → Begins G s h → on_length x h s ≡ Ok (Some f) → IsRaw G (raw_of f s)
+  read_length s h f (Ok (v, j)) e b q =
       let at : h.at ≡ length b.front = ap (λ (x : Head). x.at) b.says in
       let fits : h.at ≤ length s = rw b.joined (omega (arith, length-append b.front b.rest)) in
       read-room s h v j f (leb (j + v) (length s)) refl b (L.vlen_sound s h v j fits e) q
-  read_length s h f (Fails n) e b q = let z : ◌≡◌ {A = ℕ} 0 1 = cc in absurd (omega arith)
+  read_length s h f (Err n) e b q = let z : ◌≡◌ {A = ℕ} 0 1 = cc in absurd (omega arith)
 
-  read_head : (b : Bool) (s : List ℕ) (f : Frame) (x : Headed) → S.head b s ≡ x → on_head x S s ≡ Framed f → IsRaw G (raw_of f s)
-  read_head b s f (Opens h) e q = read_length s h f (S.vlen h s) refl (L.head_sound b s h e) q
-  read_head b s f Ends e q = let z : ◌≡◌ {A = ℕ} 0 1 = cc in absurd (omega arith)
-  read_head b s f (Wrong n) e q = let z : ◌≡◌ {A = ℕ} 0 1 = cc in absurd (omega arith)
+  read_head : (b : Bool) (s : List ℕ) (f : Frame) (x : Headed) → S.head b s ≡ x → on_head x S s ≡ Ok (Some f) → IsRaw G (raw_of f s)
+  read_head b s f (Ok (Some h)) e q = read_length s h f (S.vlen h s) refl (L.head_sound b s h e) q
+  read_head b s f (Ok None) e q = let z : ◌≡◌ {A = ℕ} 0 1 = cc in absurd (omega arith)
+  read_head b s f (Err n) e q = let z : ◌≡◌ {A = ℕ} 0 1 = cc in absurd (omega arith)
 
   -- what is read as a frame is an entry of the grammar
-  pub framed-raw : (b : Bool) (s : List ℕ) (f : Frame) → next S b s ≡ Framed f → IsRaw G (raw_of f s)
+  pub framed-raw : (b : Bool) (s : List ℕ) (f : Frame) → next S b s ≡ Ok (Some f) → IsRaw G (raw_of f s)
   unfolding next
   framed-raw b s f q = read_head b s f (S.head b s) refl q
 
@@ -142,21 +139,21 @@ module _ {S : Shape} {G : Grammar} (L : Laws S G) where
       rw i.framed (omega (arith, k.some, ap length k.joined, length-append k.before i.key))
 
   -- and lies inside the bytes that it was read from
-  pub framed-in : (b : Bool) (s : List ℕ) (f : Frame) → next S b s ≡ Framed f → (0 < f.size) × (f.size ≤ length s)
+  pub framed-in : (b : Bool) (s : List ℕ) (f : Frame) → next S b s ≡ Ok (Some f) → (0 < f.size) × (f.size ≤ length s)
   framed-in b s f q =
       let i = framed-raw b s f q in
       (raw-some (raw_of f s) i, omega (arith, raw-size i, length-take f.size s))
 
   -- nothing opens after an entry that none may follow
-  pub framed-open : (c : ℕ) (s : List ℕ) (f : Frame) → next S (S.last c) s ≡ Framed f → S.last c ≡ false
+  pub framed-open : (c : ℕ) (s : List ℕ) (f : Frame) → next S (S.last c) s ≡ Ok (Some f) → S.last c ≡ false
   unfolding next
   framed-open c s f q = go (S.last c) refl q
     where
-      heads : (x : Headed) → S.head true s ≡ x → S.last c ≡ true → on_head x S s ≡ Framed f → ⊥
-      heads (Opens h) e l q = L.head_shut c s h l e
-      heads Ends e l q = let z : ◌≡◌ {A = ℕ} 0 1 = cc in omega arith
-      heads (Wrong n) e l q = let z : ◌≡◌ {A = ℕ} 0 1 = cc in omega arith
+      heads : (x : Headed) → S.head true s ≡ x → S.last c ≡ true → on_head x S s ≡ Ok (Some f) → ⊥
+      heads (Ok (Some h)) e l q = L.head_shut c s h l e
+      heads (Ok None) e l q = let z : ◌≡◌ {A = ℕ} 0 1 = cc in omega arith
+      heads (Err n) e l q = let z : ◌≡◌ {A = ℕ} 0 1 = cc in omega arith
 
-      go : (b : Bool) → S.last c ≡ b → on_head (S.head b s) S s ≡ Framed f → b ≡ false
+      go : (b : Bool) → S.last c ≡ b → on_head (S.head b s) S s ≡ Ok (Some f) → b ≡ false
       go true e q = absurd (heads (S.head true s) refl e q)
       go false e q = refl

@@ -8,10 +8,10 @@ use mathlib.Core.Bool.{Bool, true, false}
 use native.Mathlib.Omega.{arith}
 use lib.ListN.{length, take, drop, length-append, take-append-drop}
 use lib.Seq.{take_at, drop_at}
+use Rattle.std.specs.Prelude.{Ok, Err}
 use Rattle.layout.specs.declared.Format.{Format}
 use Rattle.layout.specs.declared.Refusal.{Refusal}
-use Rattle.layout.specs.declared.Opened.{Opened}
-use Rattle.layout.specs.declared.Opened.TheVariants.{Room, Closed}
+use Rattle.layout.specs.Answers.{Opened}
 use Rattle.layout.specs.Bytes.{if, part, refusal}
 use Rattle.layout.specs.Shape.{Shape, Judged, fine, faulty}
 use Rattle.layout.specs.Editions.{shape}
@@ -70,12 +70,12 @@ entries-in S image entries z t start is starts = rw (is, starts) (simp length-ap
 
 -- why an image is refused before the rules: its header, the frame of an entry, what its format asks of its room, or its check
 pub data Unframed (f : Format) (image : List ℕ) : Refusal → Type 0 where
-  bad_header : {r : Refusal} → (shape f).opened image ≡ Closed r → Unframed f image r
-  bad_frame : {start end n p : ℕ} → (shape f).opened image ≡ Room start end → walk (shape f) false start (part start (end - start) image) ≡ stop n p →
+  bad_header : {r : Refusal} → (shape f).opened image ≡ Err r → Unframed f image r
+  bad_frame : {start end n p : ℕ} → (shape f).opened image ≡ Ok (start, end) → walk (shape f) false start (part start (end - start) image) ≡ stop n p →
       Unframed f image (refusal n p)
-  bad_room : {start end p n q : ℕ} {rs : List Raw} → (shape f).opened image ≡ Room start end → walk (shape f) false start (part start (end - start) image) ≡ done rs p →
+  bad_room : {start end p n q : ℕ} {rs : List Raw} → (shape f).opened image ≡ Ok (start, end) → walk (shape f) false start (part start (end - start) image) ≡ done rs p →
       (shape f).filled p end ≡ faulty n q → Unframed f image (refusal n q)
-  bad_check : {start end p : ℕ} {rs : List Raw} → (shape f).opened image ≡ Room start end → walk (shape f) false start (part start (end - start) image) ≡ done rs p →
+  bad_check : {start end p : ℕ} {rs : List Raw} → (shape f).opened image ≡ Ok (start, end) → walk (shape f) false start (part start (end - start) image) ≡ done rs p →
       sealed (shape f) image p ≡ false → Unframed f image (refusal 10 (check_place (shape f) p))
 
 -- how an image is read: every edition refuses it alike, or it is framed and every edition's rules are asked of the same entries
@@ -100,7 +100,7 @@ module _ (f : Format) (L : Laws (shape f) (grammar f)) where
       rw (h.opened, h.room, walk-flat L false (length H) rs h.rest fs h.ends, h.filled, seal)
 
   -- an image that is walked to its end, whose room is as its format asks, and whose check is right, is so made
-  walked-framed : (image : List ℕ) (start end p : ℕ) (rs : List Raw) → (shape f).opened image ≡ Room start end →
+  walked-framed : (image : List ℕ) (start end p : ℕ) (rs : List Raw) → (shape f).opened image ≡ Ok (start, end) →
       walk (shape f) false start (part start (end - start) image) ≡ done rs p → (shape f).filled p end ≡ fine → sealed (shape f) image p ≡ true → IsFramed f image start rs
   walked-framed image start end p rs op w fl sl =
       let S : Shape = shape f in
@@ -126,23 +126,23 @@ module _ (f : Format) (L : Laws (shape f) (grammar f)) where
   unfolding read_as
   way image = opened ((shape f).opened image) refl
     where
-      seals : (start end p : ℕ) (rs : List Raw) (t : Bool) → (shape f).opened image ≡ Room start end →
+      seals : (start end p : ℕ) (rs : List Raw) (t : Bool) → (shape f).opened image ≡ Ok (start, end) →
           walk (shape f) false start (part start (end - start) image) ≡ done rs p → (shape f).filled p end ≡ fine → sealed (shape f) image p ≡ t → Way f image
       seals start end p rs true op w fl sl = framed start rs (walked-framed image start end p rs op w fl sl) (λ e. rw (op, w, fl, sl))
       seals start end p rs false op w fl sl = unframed (refusal 10 (check_place (shape f) p)) (bad_check op w sl) (λ e. rw (op, w, fl, sl))
 
-      fills : (start end p : ℕ) (rs : List Raw) (j : Judged) → (shape f).opened image ≡ Room start end →
+      fills : (start end p : ℕ) (rs : List Raw) (j : Judged) → (shape f).opened image ≡ Ok (start, end) →
           walk (shape f) false start (part start (end - start) image) ≡ done rs p → (shape f).filled p end ≡ j → Way f image
       fills start end p rs fine op w fl = seals start end p rs (sealed (shape f) image p) op w fl refl
       fills start end p rs (faulty n q) op w fl = unframed (refusal n q) (bad_room op w fl) (λ e. rw (op, w, fl))
 
-      walked : (start end : ℕ) (x : Walked) → (shape f).opened image ≡ Room start end → walk (shape f) false start (part start (end - start) image) ≡ x → Way f image
+      walked : (start end : ℕ) (x : Walked) → (shape f).opened image ≡ Ok (start, end) → walk (shape f) false start (part start (end - start) image) ≡ x → Way f image
       walked start end (done rs p) op w = fills start end p rs ((shape f).filled p end) op w refl
       walked start end (stop n p) op w = unframed (refusal n p) (bad_frame op w) (λ e. rw (op, w))
 
       opened : (x : Opened) → (shape f).opened image ≡ x → Way f image
-      opened (Room start end) op = walked start end (walk (shape f) false start (part start (end - start) image)) op refl
-      opened (Closed r) op = unframed r (bad_header op) (λ e. rw op)
+      opened (Ok (start, end)) op = walked start end (walk (shape f) false start (part start (end - start) image)) op refl
+      opened (Err r) op = unframed r (bad_header op) (λ e. rw op)
 
 -- ---- accepted images
 

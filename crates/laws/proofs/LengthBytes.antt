@@ -1,7 +1,7 @@
 -- The length bytes of VPD 2.0: what is read is what the grammar says, and the shortest are among them.
 -- Assumes nothing.
 use Prim.Native.Nat.{ℕ, zero, suc, ◌+◌, ◌*◌, ◌-◌, ◌/◌, ◌%◌, ◌≤◌, ◌<◌}
-use mathlib.Core.Path.{◌≡◌, refl, ap, ◌∙◌}
+use mathlib.Core.Path.{◌≡◌, refl, sym, ap, ◌∙◌}
 use mathlib.Core.List.{List, [], ◌∷◌, ◌++◌}
 use mathlib.Core.Bool.{Bool, true, false}
 use native.Mathlib.Numerals.{add-one}
@@ -10,8 +10,10 @@ use lib.ListN.{length, get_or, drop, length-append}
 use lib.Seq.{drop-cons, append_snoc, get_or_at}
 use lib.Dec.{ltb}
 use borrow.Author.Tests.{ltb-true, ltb-false, lt-ltb, le-ltb}
-use Rattle.layout.specs.declared.Length.TheVariants.{Reads, Fails}
+use Rattle.std.specs.Prelude.{Ok, Err}
+use Rattle.layout.specs.Answers.{Length}
 use Rattle.layout.specs.Vpd.{groups, shortest}
+use Rattle.layout.proofs.Pairs.{ok-pair}
 use Rattle.layout.specs.Each.{Each, none, also}
 use Rattle.laws.specs.Grammar.{LengthBytes, last_byte, more_byte}
 
@@ -31,25 +33,25 @@ last_says lt e = rw e (last_byte lt)
 more-says : {k far n : ℕ} {bytes : List ℕ} (d : ℕ) → LengthBytes k (far * 128 + d) bytes n → LengthBytes (suc k) far ((128 + d) ∷ bytes) n
 more-says d says = let q : 128 + d - 128 ≡ d = omega arith in more_byte {b = 128 + d} (omega arith) (rw (← q) at says)
 
-never-reads : {A : Type 0} {n v i : ℕ} → Fails n ≡ Reads v i → A
+never-reads : {A : Type 0} {n v i : ℕ} → ◌≡◌ {A = Length} (Err n) (Ok (v, i)) → A
 never-reads e = let z : ◌≡◌ {A = ℕ} 0 1 = cc in absurd (omega arith)
 
 -- where a length is read, the grammar's length bytes stand
-pub groups-sound : (k far j : ℕ) (s : List ℕ) (v i : ℕ) → groups k far j s ≡ Reads v i → Said k far j s v i
+pub groups-sound : (k far j : ℕ) (s : List ℕ) (v i : ℕ) → groups k far j s ≡ Ok (v, i) → Said k far j s v i
 unfolding groups
 groups-sound zero far j s v i e = never-reads e
 groups-sound (suc k) far j s v i e = go (ltb j (length s)) (ltb (get_or s j 0) 128) refl refl (λ n. groups-sound k n (j + 1) s v i)
   where
     go : (b₀ b₁ : Bool) → ltb j (length s) ≡ b₀ → ltb (get_or s j 0) 128 ≡ b₁ →
-        ((n : ℕ) → groups k n (j + 1) s ≡ Reads v i → Said k n (j + 1) s v i) → Said (suc k) far j s v i
+        ((n : ℕ) → groups k n (j + 1) s ≡ Ok (v, i) → Said k n (j + 1) s v i) → Said (suc k) far j s v i
     go true true e₀ e₁ more =
         let q = rw (e₀, e₁) at e in
         record {
           bytes = get_or s j 0 ∷ [];
           rest = drop (suc j) s;
           joined = drop-cons s j 0 (ltb-true j (length s) e₀);
-          says = last_says (ltb-true (get_or s j 0) 128 e₁) (cc);
-          ends = (cc);
+          says = last_says (ltb-true (get_or s j 0) 128 e₁) (sym (ok-pair q).0);
+          ends = sym (ok-pair q).1;
         }
     go true false e₀ e₁ more =
         let m = more _ (rw (e₀, e₁) at e) in
@@ -64,7 +66,7 @@ groups-sound (suc k) far j s v i e = go (ltb j (length s)) (ltb (get_or s j 0) 1
 
 -- length bytes of the grammar are read as what they say
 pub groups-complete : {k far v : ℕ} {l : List ℕ} → LengthBytes k far l v → (j : ℕ) (a t : List ℕ) → length a ≡ j →
-    groups k far j (a ++ (l ++ t)) ≡ Reads v (j + length l)
+    groups k far j (a ++ (l ++ t)) ≡ Ok (v, (j + length l))
 unfolding groups
 groups-complete (last_byte {b = b} lt) j a t e =
     let there : j < length (a ++ (b ∷ t)) = simp length-append (omega arith) in
@@ -72,7 +74,7 @@ groups-complete (last_byte {b = b} lt) j a t e =
 groups-complete (more_byte {b = b} {n = n} {bytes = bytes} le says) j a t e =
     let there : j < length (a ++ (b ∷ (bytes ++ t))) = simp length-append (omega arith) in
     rw (lt-ltb j, get_or_at, le-ltb, ← append_snoc a b (bytes ++ t))
-    (groups-complete says (j + 1) (a ++ (b ∷ [])) t (simp length-append (omega arith)) ∙ ap (Reads n) (omega arith))
+    (groups-complete says (j + 1) (a ++ (b ∷ [])) t (simp length-append (omega arith)) ∙ ap (λ x. Ok (n, x)) (omega arith))
 
 -- the shortest length bytes say their number
 pub shortest-says : (n : ℕ) → LengthBytes 4 0 (shortest n) n

@@ -9,8 +9,8 @@ use lib.ListN.{length, get_or, drop, length-append}
 use lib.Seq.{drop-cons, get_or_at}
 use lib.Dec.{ltb}
 use borrow.Author.Tests.{ltb-true, lt-ltb}
+use Rattle.std.specs.Prelude.{Ok}
 use Rattle.layout.specs.declared.Head.{Head}
-use Rattle.layout.specs.declared.Length.TheVariants.{Reads}
 use Rattle.layout.specs.Shape.{bare_head, byte_length}
 use Rattle.laws.specs.Grammar.{Grammar}
 use Rattle.laws.proofs.Format.{KeyLast, Begins, Goes}
@@ -48,6 +48,6 @@ byte-goes G s h says =
     (λ _. tt)
 
 -- A byte where the length of the value begins is read as that length.
-pub byte-read : (a t : List ℕ) (h : Head) (v : ℕ) → length a ≡ h.at → byte_length h (a ++ (v ∷ t)) ≡ Reads v (h.at + 1)
+pub byte-read : (a t : List ℕ) (h : Head) (v : ℕ) → length a ≡ h.at → byte_length h (a ++ (v ∷ t)) ≡ Ok (v, (h.at + 1))
 byte-read a t h v e =
     rw (lt-ltb h.at (length (a ++ (v ∷ t))) (omega (arith, length-append a (v ∷ t))), get_or_at a v t 0 h.at e)

@@ -7,8 +7,8 @@ use mathlib.Core.Bool.{Bool, false}
 use native.Mathlib.Omega.{arith}
 use lib.ListN.{length, get_or, take, drop, length-take}
 use lib.Seq.{take-take, take_at, drop_at, drop-drop, take-nil, get_or-take, get_or-drop}
+use Rattle.std.specs.Prelude.{Ok, Err, Some, None}
 use Rattle.layout.specs.declared.Frame.{Frame}
-use Rattle.layout.specs.declared.Next.TheVariants.{Framed, Ended, Broken}
 use Rattle.layout.specs.Bytes.{part}
 use Rattle.layout.specs.Shape.{Shape, on_head, next}
 use Rattle.layout.specs.declared.Format.{Format}
@@ -81,21 +81,21 @@ module _ {S : Shape} {G : Grammar} (L : Laws S G) (image : List ℕ) (end : ℕ)
     pub on : Passing S G image end (p + f.size) (S.last f.code)
     pub todo_on : on.todo ≡ todo
 
-  ended-todo : (p : ℕ) (shut : Bool) (w : Passing S G image end p shut) (f : Frame) → w.todo ≡ [] → next S shut (part p (end - p) image) ≡ Framed f → ⊥
+  ended-todo : (p : ℕ) (shut : Bool) (w : Passing S G image end p shut) (f : Frame) → w.todo ≡ [] → next S shut (part p (end - p) image) ≡ Ok (Some f) → ⊥
   unfolding next
   ended-todo p shut w f e n =
       let z : part p (end - p) image ≡ w.rest = w.room ∙ ap (λ (l : List Raw). flat l ++ w.rest) e in
-      let q : on_head (S.head shut w.rest) S w.rest ≡ Framed f = rw z at n in
-      let q' : Ended ≡ Framed f = rw (w.ends shut) at q in
+      let q : on_head (S.head shut w.rest) S w.rest ≡ Ok (Some f) = rw z at n in
+      let q' : (Ok None) ≡ Ok (Some f) = rw (w.ends shut) at q in
       let c : ◌≡◌ {A = ℕ} 0 1 = cc in
       omega arith
 
   onward : (p : ℕ) (shut : Bool) (f : Frame) (w : Passing S G image end p shut) (todo : List Raw) → w.todo ≡ todo → Frames S G shut todo →
-      next S shut (part p (end - p) image) ≡ Framed f → Onward p shut f w
+      next S shut (part p (end - p) image) ≡ Ok (Some f) → Onward p shut f w
   onward p shut f w [] e fs n = absurd (ended-todo p shut w f e n)
   onward p shut f w (r ∷ rs) e fs n =
       let room : part p (end - p) image ≡ r.bytes ++ (flat rs ++ w.rest) = w.room ∙ ap (λ (l : List Raw). flat l ++ w.rest) e ∙ append_assoc r.bytes (flat rs) w.rest in
-      let read : next S shut (part p (end - p) image) ≡ Framed r.frame = rw (room, fs.0) (raw-reads L r (flat rs ++ w.rest) fs.1) in
+      let read : next S shut (part p (end - p) image) ≡ Ok (Some r.frame) = rw (room, fs.0) (raw-reads L r (flat rs ++ w.rest) fs.1) in
       let same : r.frame ≡ f = cc in
       let size : length r.bytes ≡ f.size = raw-size fs.1 ∙ ap (λ (g : Frame). g.size) same in
       let bytes : r.bytes ≡ take f.size (part p (end - p) image) = sym (ap (take f.size) room ∙ take_at r.bytes (flat rs ++ w.rest) f.size size) in
@@ -117,28 +117,28 @@ module _ {S : Shape} {G : Grammar} (L : Laws S G) (image : List ℕ) (end : ℕ)
       }
 
   -- a frame that is read is the next entry's
-  pub pass_on : (p : ℕ) (shut : Bool) (f : Frame) (w : Passing S G image end p shut) → next S shut (part p (end - p) image) ≡ Framed f → Onward p shut f w
+  pub pass_on : (p : ℕ) (shut : Bool) (f : Frame) (w : Passing S G image end p shut) → next S shut (part p (end - p) image) ≡ Ok (Some f) → Onward p shut f w
   pass_on p shut f w n = onward p shut f w w.todo refl w.frames n
 
   -- where no frame is read, nothing is left to do, and the entries end there
   last-todo : (p : ℕ) (shut : Bool) (w : Passing S G image end p shut) (todo : List Raw) → w.todo ≡ todo → Frames S G shut todo →
-      ((f : Frame) → next S shut (part p (end - p) image) ≡ Framed f → ⊥) → todo ≡ []
+      ((f : Frame) → next S shut (part p (end - p) image) ≡ Ok (Some f) → ⊥) → todo ≡ []
   last-todo p shut w [] e fs n = refl
   last-todo p shut w (r ∷ rs) e fs n =
       let room : part p (end - p) image ≡ r.bytes ++ (flat rs ++ w.rest) = w.room ∙ ap (λ (l : List Raw). flat l ++ w.rest) e ∙ append_assoc r.bytes (flat rs) w.rest in
       absurd (n r.frame (rw (room, fs.0) (raw-reads L r (flat rs ++ w.rest) fs.1)))
 
-  pub pass-ends : (p : ℕ) (shut : Bool) (w : Passing S G image end p shut) → next S shut (part p (end - p) image) ≡ Ended → w.todo ≡ []
+  pub pass-ends : (p : ℕ) (shut : Bool) (w : Passing S G image end p shut) → next S shut (part p (end - p) image) ≡ Ok None → w.todo ≡ []
   pass-ends p shut w n = last-todo p shut w w.todo refl w.frames (λ f q. let z : ◌≡◌ {A = ℕ} 0 1 = cc in omega arith)
 
   -- nothing is broken on the way
-  pub pass-unbroken : (p : ℕ) (shut : Bool) (k : ℕ) (w : Passing S G image end p shut) → next S shut (part p (end - p) image) ≡ Broken k → ⊥
+  pub pass-unbroken : (p : ℕ) (shut : Bool) (k : ℕ) (w : Passing S G image end p shut) → next S shut (part p (end - p) image) ≡ Err k → ⊥
   unfolding next
   pass-unbroken p shut k w n =
       let e : w.todo ≡ [] = last-todo p shut w w.todo refl w.frames (λ f q. let z : ◌≡◌ {A = ℕ} 0 1 = cc in omega arith) in
       let z : part p (end - p) image ≡ w.rest = w.room ∙ ap (λ (l : List Raw). flat l ++ w.rest) e in
-      let q : on_head (S.head shut w.rest) S w.rest ≡ Broken k = rw z at n in
-      let q' : Ended ≡ Broken k = rw (w.ends shut) at q in
+      let q : on_head (S.head shut w.rest) S w.rest ≡ Err k = rw z at n in
+      let q' : (Ok None) ≡ Err k = rw (w.ends shut) at q in
       let c : ◌≡◌ {A = ℕ} 0 1 = cc in
       omega arith
 

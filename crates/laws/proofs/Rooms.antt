@@ -7,9 +7,9 @@ use mathlib.Core.Bool.{Bool, true, false}
 use native.Mathlib.Omega.{arith}
 use lib.ListN.{length}
 use lib.Dec.{eqb}
+use Rattle.std.specs.Prelude.{Ok}
 use Rattle.layout.specs.declared.Format.{Format}
 use Rattle.layout.specs.declared.Format.TheVariants.{Fboss, Vpd, Tiny, Onie}
-use Rattle.layout.specs.declared.Opened.TheVariants.{Room}
 use Rattle.layout.specs.Bytes.{if}
 use Rattle.layout.specs.Shape.{fine, faulty}
 use Rattle.layout.specs.Fboss.{fboss, fboss_opened}
@@ -41,7 +41,7 @@ rooms Tiny s = on-opened {P = TinyRoom s} {Q = Inside s} (λ start end r. (omega
 rooms Onie s = on-opened {P = OnieRoom s} {Q = Inside s} (λ start end r. (omega (arith, r.starts, r.ends), omega (arith, r.ends, r.inside))) (onie_opened s) (onie-room s)
 
 -- the room of the entries lies inside the image
-pub room-inside : (f : Format) (image : List ℕ) (start end : ℕ) → (shape f).opened image ≡ Room start end → (start ≤ end) × (end ≤ length image)
+pub room-inside : (f : Format) (image : List ℕ) (start end : ℕ) → (shape f).opened image ≡ Ok (start, end) → (start ≤ end) × (end ≤ length image)
 unfolding Inside
 room-inside f image start end e = rw e at (rooms f image)
 

@@ -4,7 +4,7 @@ use Prim.Native.Nat.{ℕ, zero, suc, ◌+◌, ◌≤◌, ◌<◌}
 use mathlib.Core.Path.{◌≡◌}
 use mathlib.Core.List.{List, ◌∷◌}
 use borrow.Author.Tests.{lt-ltb, le-ltb}
-use Rattle.layout.specs.declared.Located.TheVariants.{At}
+use Rattle.std.specs.Prelude.{Ok}
 use Rattle.layout.specs.Bytes.{part_at}
 use Rattle.layout.specs.Calls.{string_in}
 
@@ -13,7 +13,7 @@ unfolding string_in
 goes b bs p n zero lt = rw (lt-ltb b 128 lt)
 goes b bs p n (suc k) lt = rw (lt-ltb b 128 lt)
 
-pub ends : (b : ℕ) (bs : List ℕ) (p n left : ℕ) → 128 ≤ b → left ≡ 0 → string_in (b ∷ bs) p n left ≡ At (part_at p (n + 1))
+pub ends : (b : ℕ) (bs : List ℕ) (p n left : ℕ) → 128 ≤ b → left ≡ 0 → string_in (b ∷ bs) p n left ≡ Ok (part_at p (n + 1))
 unfolding string_in
 ends b bs p n left le z = rw (z, le-ltb b 128 le)
 

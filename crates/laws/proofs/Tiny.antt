@@ -11,9 +11,9 @@ use lib.ListN.{length, get_or, take, drop, length-append, length-drop, take-appe
 use lib.Seq.{drop-cons, take_at, length-take-le}
 use lib.Dec.{ltb, leb, eqb}
 use borrow.Author.Tests.{ltb-true, ltb-false, lt-ltb, le-ltb, leb-true, le-leb, eqb-true, eqb-false, ne_eqb}
+use Rattle.std.specs.Prelude.{Ok}
 use Rattle.layout.specs.declared.Head.{Head}
-use Rattle.layout.specs.declared.Headed.{Headed}
-use Rattle.layout.specs.declared.Length.TheVariants.{Reads}
+use Rattle.layout.specs.Answers.{Headed}
 use Rattle.layout.specs.Bytes.{part}
 use Rattle.layout.specs.Tiny.{tiny, tiny_opened, tiny_head, tiny_length}
 use Rattle.layout.specs.Editions.{names, since_in}
@@ -48,7 +48,7 @@ goes s h =
 
 -- What says a length is read as that length.
 reads : (a lens t : List ℕ) (h : Head) (v : ℕ) → length a ≡ h.at → TinySays h.code lens v →
-    tiny_length h (a ++ (lens ++ t)) ≡ Reads v (h.at + length lens)
+    tiny_length h (a ++ (lens ++ t)) ≡ Ok (v, (h.at + length lens))
 unfolding tiny_length
 reads a lens t h v e (inl (low, is)) = rw (lt-ltb h.code 16 low, is) (byte-read a t h v e)
 reads a lens t h v e (inr (high, is, sized)) = rw (le-ltb h.code 16 high, is, sized, add-zero)

@@ -10,10 +10,9 @@ use lib.ListN.{length, take, drop, length-append, take-append-drop}
 use lib.Seq.{take_all, length-take-le}
 use lib.Dec.{ltb, leb, eqb}
 use borrow.Author.Tests.{lt-ltb, leb-true, le-leb, eqb-true}
-use Rattle.layout.specs.declared.Headed.{Headed}
-use Rattle.layout.specs.declared.Headed.TheVariants.{Opens, Ends, Wrong}
-use Rattle.layout.specs.declared.Length.{Length}
-use Rattle.layout.specs.declared.Length.TheVariants.{Reads, Fails}
+use Rattle.std.specs.Prelude.{Ok, Err, Some, None}
+use Rattle.layout.proofs.Pairs.{ok-pair}
+use Rattle.layout.specs.Answers.{Headed, Length}
 use Rattle.layout.specs.Bytes.{if, between, all, part}
 use Rattle.layout.specs.Editions.{names, since_in}
 use Rattle.layout.specs.Vpd.{vpd, vpd_head, keyed_head, groups, key_byte, vpd_reader_key, vpd_writer_key, shortest}
@@ -37,7 +36,7 @@ unfolding vpd_head
 keyed-head t (inl e) = rw (e, nonempty t)
 keyed-head t (inr e) = rw (e, nonempty t)
 
-closing-ends : (z t : List ℕ) → vpd_grammar.Closing z → vpd_head (z ++ t) ≡ Ends
+closing-ends : (z t : List ℕ) → vpd_grammar.Closing z → vpd_head (z ++ t) ≡ Ok None
 unfolding vpd_head
 closing-ends z t (inl e) = rw (e, nonempty t)
 closing-ends z t (inr e) = rw (e, nonempty t)
@@ -49,11 +48,11 @@ head-from c lens key =
     let k : 1 + length lens + length key - length key ≡ 1 + length lens = omega arith in
     rw (a, k)
 
-head-made : (front key t : List ℕ) (c : ℕ) → VpdOpening front c key → vpd_head (front ++ t) ≡ Opens (head_from front c key)
+head-made : (front key t : List ℕ) (c : ℕ) → VpdOpening front c key → vpd_head (front ++ t) ≡ Ok (Some (head_from front c key))
 head-made front key t c o =
     let fits : 1 + length o.lens + length key ≤ suc (length (o.lens ++ (key ++ t))) = simp length-append (omega arith) in
     rw (o.is, keyed-head _ o.typed, append_assoc o.lens key t, groups-complete o.says 1 (c ∷ []) (key ++ t) refl, le-leb)
-    (ap Opens (head-from c o.lens key))
+    (ap (λ x. Ok (Some x)) (head-from c o.lens key))
 
 begins : {c n j : ℕ} {t : List ℕ} → Typed c → Said 4 0 1 (c ∷ t) n j → j + n ≤ suc (length t) →
     Begins vpd_grammar (c ∷ t) (record { code = c; key = j; klen = n; at = j + n })
@@ -70,9 +69,9 @@ begins {c} {n} {j} {t} typed m fits =
 
 -- what stands at the front of s, where this is read as its head
 abbrev Front : List ℕ → Headed → Type 0
-Front s (Opens h) = Begins vpd_grammar s h
-Front s Ends = Wholly vpd vpd_grammar s []
-Front s (Wrong n) = Unit {0}
+Front s (Ok (Some h)) = Begins vpd_grammar s h
+Front s (Ok None) = Wholly vpd vpd_grammar s []
+Front s (Err n) = Unit {0}
 
 head-reads : (s : List ℕ) → Front s (vpd_head s)
 unfolding vpd_head vpd
@@ -82,14 +81,14 @@ head-reads (c ∷ t) = go (eqb c 0x00) (eqb c 0xFF) (eqb c 0x01) (eqb c 0xFE) re
     closed : vpd_grammar.Closing (c ∷ []) → Front (c ∷ t) (vpd_head (c ∷ t))
     closed z = rw (closing-ends (c ∷ []) t z) (record { closing = c ∷ []; rest = t; closes = z; takes = tt; is = refl })
 
-    fits : {n j : ℕ} → Typed c → groups 4 0 1 (c ∷ t) ≡ Reads n j → (b : Bool) → leb (j + n) (suc (length t)) ≡ b →
-        Front (c ∷ t) (if b (λ _. Opens (record { code = c; key = j; klen = n; at = j + n })) (λ _. Wrong 5))
+    fits : {n j : ℕ} → Typed c → groups 4 0 1 (c ∷ t) ≡ Ok (n, j) → (b : Bool) → leb (j + n) (suc (length t)) ≡ b →
+        Front (c ∷ t) (if b (λ _. Ok (Some (record { code = c; key = j; klen = n; at = j + n }))) (λ _. Err 5))
     fits {n} {j} typed g true e = begins typed (groups-sound 4 0 1 (c ∷ t) n j g) (leb-true (j + n) (suc (length t)) e)
     fits typed g false e = tt
 
     keyed : Typed c → (x : Length) → groups 4 0 1 (c ∷ t) ≡ x → Front (c ∷ t) (keyed_head x (c ∷ t))
-    keyed typed (Reads n j) g = fits typed g (leb (j + n) (suc (length t))) refl
-    keyed typed (Fails n) g = tt
+    keyed typed (Ok (n, j)) g = fits typed g (leb (j + n) (suc (length t))) refl
+    keyed typed (Err n) g = tt
 
     opened : Typed c → Front (c ∷ t) (vpd_head (c ∷ t))
     opened typed = rw (keyed-head t typed) (keyed typed (groups 4 0 1 (c ∷ t)) refl)
@@ -168,8 +167,8 @@ vpd-laws =
             filled = refl;
           };
       room_sound = λ b image entries rest start end o r e filled.
-          let from : start ≡ 0 = cc in
-          let to : end ≡ length image = cc in
+          let from : start ≡ 0 = sym (ok-pair o).0 in
+          let to : end ≡ length image = sym (ok-pair o).1 in
           let w : Wholly vpd vpd_grammar rest [] = rw e at (head-reads rest) in
           let all = take_all (length image - 0) image (omega arith) in
           (from, record { closing = w.closing; rest = w.rest; closes = w.closes; takes = tt; is = cc (all, rw (from, to) at r, w.is) });

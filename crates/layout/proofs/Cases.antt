@@ -9,23 +9,15 @@ use mathlib.Core.Path.{◌≡◌, refl}
 use mathlib.Core.List.{List, [], ◌∷◌, ◌++◌, map}
 use lib.ListN.{length, replicate}
 use lib.Dec.{leb, eqb}
+use Rattle.std.specs.Prelude.{Ok, Err}
 use Rattle.crc.specs.Crc.{check16_of, check8_of, check32_of, mirror, check_of, byte_in, single_bit}
-use Rattle.layout.specs.declared.Length.{Length}
-use Rattle.layout.specs.declared.Length.TheVariants.{Reads}
+use Rattle.layout.specs.Answers.{Length, Checked, Lookup, Located, Made}
 use Rattle.layout.specs.declared.Identity.{Identity}
 use Rattle.layout.specs.declared.Reading.{Reading}
 use Rattle.layout.specs.declared.Reading.TheVariants.{Plain, Number}
 use Rattle.layout.specs.declared.Entry.{Entry}
 use Rattle.layout.specs.declared.Field.{Field}
 use Rattle.layout.specs.declared.Refusal.{Refusal}
-use Rattle.layout.specs.declared.Checked.{Checked}
-use Rattle.layout.specs.declared.Checked.TheVariants.{Accepted, Refused}
-use Rattle.layout.specs.declared.Lookup.{Lookup}
-use Rattle.layout.specs.declared.Lookup.TheVariants.{Found, Missing}
-use Rattle.layout.specs.declared.Located.{Located}
-use Rattle.layout.specs.declared.Located.TheVariants.{Nowhere}
-use Rattle.layout.specs.declared.Made.{Made}
-use Rattle.layout.specs.declared.Made.TheVariants.{Wrote, Unwritten}
 use Rattle.layout.specs.Bytes.{if, all, one_of, same_bytes, part, high_first, place, string_number, part_at, refusal}
 use Rattle.layout.specs.Calendar.{last_day, is_day, is_time}
 use Rattle.layout.specs.Shape.{next, coded_head}
@@ -184,26 +176,26 @@ abbrev pub keyed_field : ℕ → ℕ → ℕ → ℕ → ℕ → Field
 keyed_field c a m v n = record { code = c; key = part_at a m; value = part_at v n }
 
 abbrev pub refuses : ℕ → ℕ → Checked
-refuses n p = Refused (refusal n p)
+refuses n p = Err (refusal n p)
 
 abbrev pub misses : ℕ → ℕ → Lookup
-misses n p = Missing (refusal n p)
+misses n p = Err (refusal n p)
 
 abbrev pub nowhere : ℕ → ℕ → Located
-nowhere n p = Nowhere (refusal n p)
+nowhere n p = Err (refusal n p)
 
 abbrev pub unwritten : ℕ → ℕ → Made
-unwritten n p = Unwritten (refusal n p)
+unwritten n p = Err (refusal n p)
 
 -- ---- the number of a call alone, 0 where nothing is refused, for cases over many numbers
 
 abbrev pub checked_number : Checked → ℕ
-checked_number (Accepted n) = 0
-checked_number (Refused r) = r.number
+checked_number (Ok n) = 0
+checked_number (Err r) = r.number
 
 abbrev pub made_number : Made → ℕ
-made_number (Wrote n) = 0
-made_number (Unwritten r) = r.number
+made_number (Ok n) = 0
+made_number (Err r) = r.number
 
 -- of the check of an image
 abbrev pub checking : ℕ → ℕ → List ℕ → ℕ
@@ -365,7 +357,7 @@ wanted (checks f e image answer) = checked answer
 wanted (alike f image answer) = alike-checked answer answer answer answer
 wanted (numbers n answer) = number answer
 wanted (sweeps bound question n answer) = bytes answer
-wanted (lists f e image rs) = listed (record { answer = Accepted (length rs); records = rs })
+wanted (lists f e image rs) = listed (record { answer = Ok (length rs); records = rs })
 wanted (fills f e image lent answer rs) = listed (record { answer = answer; records = rs })
 wanted (entries f e image rs) = records rs
 wanted (finds f e image n answer) = looked-up answer
@@ -377,10 +369,10 @@ wanted (writes f e xs lent out answer memory) = outcome (record { answer = answe
 wanted (edits f e image n v out answer memory) = outcome (record { answer = answer; memory = memory })
 wanted (adds f e image xs lent out answer memory) = outcome (record { answer = answer; memory = memory })
 wanted (removes f e image n out answer memory) = outcome (record { answer = answer; memory = memory })
-wanted (unwrites f e xs lent room answer) = outcome (record { answer = Unwritten answer; memory = replicate room 0 })
-wanted (unedits f e image n v room answer) = outcome (record { answer = Unwritten answer; memory = replicate room 0 })
-wanted (unadds f e image xs lent room answer) = outcome (record { answer = Unwritten answer; memory = replicate room 0 })
-wanted (unremoves f e image n room answer) = outcome (record { answer = Unwritten answer; memory = replicate room 0 })
+wanted (unwrites f e xs lent room answer) = outcome (record { answer = Err answer; memory = replicate room 0 })
+wanted (unedits f e image n v room answer) = outcome (record { answer = Err answer; memory = replicate room 0 })
+wanted (unadds f e image xs lent room answer) = outcome (record { answer = Err answer; memory = replicate room 0 })
+wanted (unremoves f e image n room answer) = outcome (record { answer = Err answer; memory = replicate room 0 })
 wanted (rounds f e xs lent room answer) = contents answer
 wanted (says x answer) = bytes answer
 wanted (tells t answer) = said answer
@@ -396,33 +388,33 @@ cases =
     ∷ check16 (text "A") 0x9479
     ∷ check16 (text "123456789") 0xE5CC
     -- P: lengths 84 82 01 read 65,793
-    ∷ lengths (hex "84 82 01") (Reads 65793 3)
+    ∷ lengths (hex "84 82 01") (Ok (65793, 3))
     -- P: FBOSS FB FB 05 FF alone: 5 at 4. With 04 as version: 4
     ∷ alike 1 (hex "FB FB 05 FF") (refuses 5 4)
     ∷ alike 1 (hex "FB FB 04 FF") (refuses 4 0)
     -- P: 01 03 53 4B 55 02 41 37 00: one entry, kind 513
-    ∷ alike 2 (hex "01 03 53 4B 55 02 41 37 00") (Accepted 1)
+    ∷ alike 2 (hex "01 03 53 4B 55 02 41 37 00") (Ok 1)
     ∷ lists 2 1 sku (keyed 0x01 513 0 8 2 3 6 2 ∷ [])
     ∷ lists 2 2 sku (keyed 0x01 513 0 8 2 3 6 2 ∷ [])
     ∷ lists 2 3 sku (keyed 0x01 513 0 8 2 3 6 2 ∷ [])
     -- P: 01 00 00 00: 7 at 0. 01 80 80 80 80: 6 at 0. 01 80 01 41 00 00: accepted, value at 5, length 0
     ∷ alike 2 (hex "01 00 00 00") (refuses 7 0)
     ∷ alike 2 (hex "01 80 80 80 80") (refuses 6 0)
-    ∷ alike 2 (hex "01 80 01 41 00 00") (Accepted 1)
-    ∷ finds 2 1 (hex "01 80 01 41 00 00") 0 (Found (keyed 0x01 513 0 5 3 1 5 0))
-    ∷ finds 2 2 (hex "01 80 01 41 00 00") 0 (Found (keyed 0x01 513 0 5 3 1 5 0))
-    ∷ finds 2 3 (hex "01 80 01 41 00 00") 0 (Found (keyed 0x01 513 0 5 3 1 5 0))
+    ∷ alike 2 (hex "01 80 01 41 00 00") (Ok 1)
+    ∷ finds 2 1 (hex "01 80 01 41 00 00") 0 (Ok (keyed 0x01 513 0 5 3 1 5 0))
+    ∷ finds 2 2 (hex "01 80 01 41 00 00") 0 (Ok (keyed 0x01 513 0 5 3 1 5 0))
+    ∷ finds 2 3 (hex "01 80 01 41 00 00") 0 (Ok (keyed 0x01 513 0 5 3 1 5 0))
     -- P: 01 01 41 00 01 01 41 00 00: 8 at 4
     ∷ alike 2 (hex "01 01 41 00 01 01 41 00 00") (refuses 8 4)
     -- P: FE 01 41 03 01 02 03 00: edition 1 accepts, kind 0; edition 2 gives 7 at 0, and so does edition 3
-    ∷ checks 2 1 (hex "FE 01 41 03 01 02 03 00") (Accepted 1)
-    ∷ finds 2 1 (hex "FE 01 41 03 01 02 03 00") 0 (Found (keyed 0xFE 0 0 7 2 1 4 3))
+    ∷ checks 2 1 (hex "FE 01 41 03 01 02 03 00") (Ok 1)
+    ∷ finds 2 1 (hex "FE 01 41 03 01 02 03 00") 0 (Ok (keyed 0xFE 0 0 7 2 1 4 3))
     ∷ checks 2 2 (hex "FE 01 41 03 01 02 03 00") (refuses 7 0)
     ∷ checks 2 3 (hex "FE 01 41 03 01 02 03 00") (refuses 7 0)
     ∷ finds 2 2 (hex "FE 01 41 03 01 02 03 00") 0 (misses 7 0)
     ∷ finds 2 3 (hex "FE 01 41 03 01 02 03 00") 0 (misses 7 0)
     -- P: Tiny 56 02 04 6F: no entries. Last byte 6E: 10 at 3. 56 02 03: 5 at 2
-    ∷ alike 3 (hex "56 02 04 6F") (Accepted 0)
+    ∷ alike 3 (hex "56 02 04 6F") (Ok 0)
     ∷ lists 3 1 (hex "56 02 04 6F") []
     ∷ lists 3 2 (hex "56 02 04 6F") []
     ∷ lists 3 3 (hex "56 02 04 6F") []

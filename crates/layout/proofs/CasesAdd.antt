@@ -4,8 +4,7 @@ use Prim.Native.Nat.{ℕ}
 use mathlib.Core.Path.{◌≡◌, refl}
 use mathlib.Core.List.{List, [], ◌∷◌, ◌++◌, map}
 use lib.ListN.{length, replicate}
-use Rattle.layout.specs.declared.Checked.TheVariants.{Accepted}
-use Rattle.layout.specs.declared.Made.TheVariants.{Wrote}
+use Rattle.std.specs.Prelude.{Ok}
 use Rattle.layout.specs.Bytes.{refusal}
 use Rattle.layout.specs.Add.{add_field}
 use Rattle.layout.proofs.Cases.{text, hex, run, fboss_of, five, with_block, sku, lab_rack, two_names, no_tags, onie_of, no_entries, field, keyed_field, unwritten, made_number}
@@ -32,54 +31,54 @@ nearly_longest =
 abbrev pub cases : List Case
 cases =
     -- ---- VPD: the SKU image with PN = "X": more bytes than needed, just enough, one less
-    adds 2 1 sku (keyed_field 0x01 0 2 2 1 ∷ []) (text "PNX") (replicate 17 7) (Wrote 15) (hex "01 03 53 4B 55 02 41 37 01 02 50 4E 01 58 00 FF FF")
-    ∷ adds 2 4 sku (keyed_field 0x01 0 2 2 1 ∷ []) (text "PNX") (replicate 15 7) (Wrote 15) (hex "01 03 53 4B 55 02 41 37 01 02 50 4E 01 58 00")
+    adds 2 1 sku (keyed_field 0x01 0 2 2 1 ∷ []) (text "PNX") (replicate 17 7) (Ok 15) (hex "01 03 53 4B 55 02 41 37 01 02 50 4E 01 58 00 FF FF")
+    ∷ adds 2 4 sku (keyed_field 0x01 0 2 2 1 ∷ []) (text "PNX") (replicate 15 7) (Ok 15) (hex "01 03 53 4B 55 02 41 37 01 02 50 4E 01 58 00")
     ∷ adds 2 2 sku (keyed_field 0x01 0 2 2 1 ∷ []) (text "PNX") (replicate 14 7) (unwritten 12 0) (replicate 14 7)
     -- the first field alone, whatever follows it
-    ∷ adds 2 1 sku (keyed_field 0x01 0 2 2 1 ∷ field 0x77 900 900 ∷ []) (text "PNX") (replicate 15 7) (Wrote 15) (hex "01 03 53 4B 55 02 41 37 01 02 50 4E 01 58 00")
+    ∷ adds 2 1 sku (keyed_field 0x01 0 2 2 1 ∷ field 0x77 900 900 ∷ []) (text "PNX") (replicate 15 7) (Ok 15) (hex "01 03 53 4B 55 02 41 37 01 02 50 4E 01 58 00")
     -- to an image without entries, by either end, and what followed it is dropped
-    ∷ adds 2 1 (hex "00") (keyed_field 0x01 0 1 1 0 ∷ []) (text "A") (replicate 6 7) (Wrote 5) (hex "01 01 41 00 00 FF")
-    ∷ adds 2 1 (hex "FF 09 09") (keyed_field 0x01 0 1 1 0 ∷ []) (text "A") (replicate 5 7) (Wrote 5) (hex "01 01 41 00 00")
+    ∷ adds 2 1 (hex "00") (keyed_field 0x01 0 1 1 0 ∷ []) (text "A") (replicate 6 7) (Ok 5) (hex "01 01 41 00 00 FF")
+    ∷ adds 2 1 (hex "FF 09 09") (keyed_field 0x01 0 1 1 0 ∷ []) (text "A") (replicate 5 7) (Ok 5) (hex "01 01 41 00 00")
     -- other frames stay as they are, long lengths and keys of any bytes too; the end becomes 00h
-    ∷ adds 2 1 sku_and_feh (keyed_field 0x01 0 1 1 1 ∷ []) (text "AB") (replicate 24 7) (Wrote 23)
+    ∷ adds 2 1 sku_and_feh (keyed_field 0x01 0 1 1 1 ∷ []) (text "AB") (replicate 24 7) (Ok 23)
     (hex "01 03 53 4B 55 02 41 37 FE 80 01 41 04 01 02 03 04 01 01 41 01 42 00 FF")
-    ∷ adds 2 2 two_names (keyed_field 0x01 0 1 1 1 ∷ []) (text "AB") (replicate 27 7) (Wrote 27)
+    ∷ adds 2 2 two_names (keyed_field 0x01 0 1 1 1 ∷ []) (text "AB") (replicate 27 7) (Ok 27)
     (hex "01 08 6C 61 62 2E 72 61 63 6B 02 52 32 01 80 02 00 22 80 01 41 01 01 41 01 42 00")
     -- an info header, of any key
-    ∷ adds 2 2 sku (keyed_field 0xFE 0 3 3 4 ∷ []) (hex "53 4B 55 01 02 03 04") (replicate 19 7) (Wrote 19) (hex "01 03 53 4B 55 02 41 37 FE 03 53 4B 55 04 01 02 03 04 00")
-    ∷ adds 2 2 (hex "00") (keyed_field 0xFE 0 0 0 4 ∷ []) (hex "01 02 03 04") (replicate 8 7) (Wrote 8) (hex "FE 00 04 01 02 03 04 00")
+    ∷ adds 2 2 sku (keyed_field 0xFE 0 3 3 4 ∷ []) (hex "53 4B 55 01 02 03 04") (replicate 19 7) (Ok 19) (hex "01 03 53 4B 55 02 41 37 FE 03 53 4B 55 04 01 02 03 04 00")
+    ∷ adds 2 2 (hex "00") (keyed_field 0xFE 0 0 0 4 ∷ []) (hex "01 02 03 04") (replicate 8 7) (Ok 8) (hex "FE 00 04 01 02 03 04 00")
     -- lengths in their shortest form
-    ∷ adds 2 1 (hex "00") (keyed_field 0x01 0 1 0 128 ∷ []) (replicate 128 0x41) (replicate 134 7) (Wrote 134) (hex "01 01 41 81 00" ++ replicate 128 0x41 ++ hex "00")
+    ∷ adds 2 1 (hex "00") (keyed_field 0x01 0 1 0 128 ∷ []) (replicate 128 0x41) (replicate 134 7) (Ok 134) (hex "01 01 41 81 00" ++ replicate 128 0x41 ++ hex "00")
     -- ---- FBOSS: an address block, and a text by edition 1 behind it
-    ∷ adds 1 2 (fboss_of five 0x4826) (field 17 0 8 ∷ []) (hex "02 00 00 00 00 01 00 08") (replicate 33 7) (Wrote 33) with_block
-    ∷ adds 1 1 with_block (field 12 0 1 ∷ []) (text "A") (replicate 37 7) (Wrote 36)
+    ∷ adds 1 2 (fboss_of five 0x4826) (field 17 0 8 ∷ []) (hex "02 00 00 00 00 01 00 08") (replicate 33 7) (Ok 33) with_block
+    ∷ adds 1 1 with_block (field 12 0 1 ∷ []) (text "A") (replicate 37 7) (Ok 36)
     (fboss_of (five ++ hex "11 08 02 00 00 00 00 01 00 08 0C 01 41") 0x020E ++ hex "FF")
     -- outside VPD a key counts as empty, wherever it is
-    ∷ adds 1 1 (fboss_of five 0x4826 ++ hex "09") (keyed_field 12 900 900 0 1 ∷ []) (text "A") (replicate 26 7) (Wrote 26) (fboss_of (five ++ hex "0C 01 41") 0x06F9)
+    ∷ adds 1 1 (fboss_of five 0x4826 ++ hex "09") (keyed_field 12 900 900 0 1 ∷ []) (text "A") (replicate 26 7) (Ok 26) (fboss_of (five ++ hex "0C 01 41") 0x06F9)
     -- ---- Tiny: before the pool, and behind what an older edition does not name; a first pool goes last
-    ∷ adds 3 1 batch_and_pool (field 0x10 0 1 ∷ []) (hex "03") (replicate 22 7) (Wrote 21) (hex "56 02 15 80 00 01 02 03 04 05 34 12 10 03 01 04 41 C2 C3 44 1F FF")
-    ∷ adds 3 1 all_tags (field 0x62 0 6 ∷ []) (hex "00 01 80 63 04 05") (replicate 31 7) (Wrote 31)
+    ∷ adds 3 1 batch_and_pool (field 0x10 0 1 ∷ []) (hex "03") (replicate 22 7) (Ok 21) (hex "56 02 15 80 00 01 02 03 04 05 34 12 10 03 01 04 41 C2 C3 44 1F FF")
+    ∷ adds 3 1 all_tags (field 0x62 0 6 ∷ []) (hex "00 01 80 63 04 05") (replicate 31 7) (Ok 31)
     (hex "56 02 1F 10 02 11 0F 60 02 00 00 00 01 FF 61 00 01 02 03 04 05 62 00 01 80 63 04 05 01 00 7F")
-    ∷ adds 3 2 (hex "56 02 07 01 01 C1 8F") (field 0x10 0 1 ∷ []) (hex "03") (replicate 9 7) (Wrote 9) (hex "56 02 09 10 03 01 01 C1 61")
-    ∷ adds 3 1 no_tags (field 0x01 0 1 ∷ []) (hex "C1") (replicate 7 7) (Wrote 7) (hex "56 02 07 01 01 C1 8F")
-    ∷ adds 3 4 (hex "56 02 0D 80 00 01 02 03 04 05 34 12 CB") (field 0x01 0 4 ∷ []) (hex "41 C2 C3 44") (replicate 19 7) (Wrote 19) batch_and_pool
-    ∷ adds 3 1 (no_tags ++ hex "FF FF") (field 0x11 0 1 ∷ []) (hex "07") (replicate 6 7) (Wrote 6) (hex "56 02 06 11 07 B7")
+    ∷ adds 3 2 (hex "56 02 07 01 01 C1 8F") (field 0x10 0 1 ∷ []) (hex "03") (replicate 9 7) (Ok 9) (hex "56 02 09 10 03 01 01 C1 61")
+    ∷ adds 3 1 no_tags (field 0x01 0 1 ∷ []) (hex "C1") (replicate 7 7) (Ok 7) (hex "56 02 07 01 01 C1 8F")
+    ∷ adds 3 4 (hex "56 02 0D 80 00 01 02 03 04 05 34 12 CB") (field 0x01 0 4 ∷ []) (hex "41 C2 C3 44") (replicate 19 7) (Ok 19) batch_and_pool
+    ∷ adds 3 1 (no_tags ++ hex "FF FF") (field 0x11 0 1 ∷ []) (hex "07") (replicate 6 7) (Ok 6) (hex "56 02 06 11 07 B7")
     -- L of 255 is written, and 256 is 12
-    ∷ adds 3 1 (hex "56 02 FD 01 F7" ++ replicate 247 0xC1 ++ hex "32") (field 0x10 0 1 ∷ []) (hex "03") (replicate 255 7) (Wrote 255)
+    ∷ adds 3 1 (hex "56 02 FD 01 F7" ++ replicate 247 0xC1 ++ hex "32") (field 0x10 0 1 ∷ []) (hex "03") (replicate 255 7) (Ok 255)
     (hex "56 02 FF 10 03 01 F7" ++ replicate 247 0xC1 ++ hex "0D")
     ∷ unadds 3 1 (hex "56 02 FE 01 F8" ++ replicate 248 0xC1 ++ hex "D8") (field 0x10 0 1 ∷ []) (hex "03") 300 (refusal 12 0)
     -- ---- ONIE: FDh as often as one likes; a declared length of 2,048 fits, and of 2,049 is 12
-    ∷ adds 4 3 no_entries (field 0x21 0 1 ∷ []) (text "A") (replicate 20 7) (Wrote 20) (onie_of (hex "21 01 41") (hex "D5 F1 23 CB"))
-    ∷ adds 4 4 (onie_of (hex "26 01 00") (hex "16 89 18 2C") ++ hex "09") (field 0x21 0 1 ∷ []) (text "A") (replicate 24 7) (Wrote 23) (onie_of (hex "26 01 00 21 01 41") (hex "52 8F 77 75") ++ hex "FF")
-    ∷ adds 4 3 (onie_of (hex "FD 04 01 02 03 04") (hex "CA A5 33 49")) (field 0xFD 0 4 ∷ []) (hex "01 02 03 04") (replicate 29 7) (Wrote 29)
+    ∷ adds 4 3 no_entries (field 0x21 0 1 ∷ []) (text "A") (replicate 20 7) (Ok 20) (onie_of (hex "21 01 41") (hex "D5 F1 23 CB"))
+    ∷ adds 4 4 (onie_of (hex "26 01 00") (hex "16 89 18 2C") ++ hex "09") (field 0x21 0 1 ∷ []) (text "A") (replicate 24 7) (Ok 23) (onie_of (hex "26 01 00 21 01 41") (hex "52 8F 77 75") ++ hex "FF")
+    ∷ adds 4 3 (onie_of (hex "FD 04 01 02 03 04") (hex "CA A5 33 49")) (field 0xFD 0 4 ∷ []) (hex "01 02 03 04") (replicate 29 7) (Ok 29)
     (onie_of (hex "FD 04 01 02 03 04 FD 04 01 02 03 04") (hex "97 75 CD F4"))
     ∷ numbers (made_number (add_field 4 3 nearly_longest (field 0x22 0 0 ∷ []) [] (replicate 2059 0)).answer) 0
     ∷ unadds 4 3 nearly_longest (field 0x22 0 0 ∷ []) [] 2058 (refusal 12 0)
     ∷ unadds 4 3 nearly_longest (field 0x22 0 1 ∷ []) (text "A") 2100 (refusal 12 0)
     ∷ unadds 4 4 longest (field 0x22 0 0 ∷ []) [] 2100 (refusal 12 0)
     -- ---- what an older edition added or removed, later ones read
-    ∷ alike 1 (fboss_of (five ++ hex "11 08 02 00 00 00 00 01 00 08 0C 01 41") 0x020E ++ hex "FF") (Accepted 7)
-    ∷ alike 3 (hex "56 02 15 80 00 01 02 03 04 05 34 12 10 03 01 04 41 C2 C3 44 1F FF") (Accepted 3)
+    ∷ alike 1 (fboss_of (five ++ hex "11 08 02 00 00 00 00 01 00 08 0C 01 41") 0x020E ++ hex "FF") (Ok 7)
+    ∷ alike 3 (hex "56 02 15 80 00 01 02 03 04 05 34 12 10 03 01 04 41 C2 C3 44 1F FF") (Ok 3)
     -- ---- 16, 1 and 2, then the image's own, before 13
     ∷ unadds 0 1 sku [] [] 3 (refusal 16 0)
     ∷ unadds 5 9 [] [] [] 3 (refusal 16 0)
@@ -96,7 +95,7 @@ cases =
     ∷ unadds 2 1 sku (keyed_field 0x01 0 2 2 2 ∷ []) (text "PNX") 0 (refusal 13 0)
     ∷ unadds 2 1 sku (keyed_field 0x01 2 2 0 1 ∷ []) (text "PNX") 0 (refusal 13 0)
     ∷ unadds 2 1 sku (keyed_field 0x01 0 1 4 0 ∷ []) (text "PNX") 0 (refusal 13 0)
-    ∷ adds 2 1 (hex "00") (keyed_field 0x01 0 1 3 0 ∷ []) (text "PNX") (replicate 5 7) (Wrote 5) (hex "01 01 50 00 00")
+    ∷ adds 2 1 (hex "00") (keyed_field 0x01 0 1 3 0 ∷ []) (text "PNX") (replicate 5 7) (Ok 5) (hex "01 01 50 00 00")
     ∷ unadds 2 1 sku (keyed_field 0x02 9 9 9 9 ∷ []) (text "PNX") 0 (refusal 13 0)
     ∷ unadds 1 1 with_block (field 17 1 8 ∷ []) (replicate 8 0) 0 (refusal 13 0)
     ∷ unadds 3 1 no_tags (field 0x00 0 1 ∷ []) [] 0 (refusal 13 0)

@@ -4,7 +4,7 @@ use Prim.Native.Nat.{ℕ, ◌+◌}
 use mathlib.Core.Path.{◌≡◌, refl}
 use mathlib.Core.List.{List, [], ◌∷◌, ◌++◌, map}
 use lib.ListN.{replicate}
-use Rattle.layout.specs.declared.Made.TheVariants.{Wrote}
+use Rattle.std.specs.Prelude.{Ok}
 use Rattle.layout.specs.Bytes.{one_of, refusal}
 use Rattle.layout.specs.Calendar.{last_day, is_day, is_time, date, time}
 use Rattle.layout.specs.Years.{one}
@@ -85,7 +85,7 @@ cases =
     ∷ steps 4 3 0 no_stamp (misses 7 11) 0
     ∷ unedits 4 3 no_stamp 0 (text "02/29/2024 23:59:59") 40 (refusal 7 11)
     -- an edit of a date, to a day and to none
-    ∷ edits 1 1 (board_with 13 (text "20240229") 0x9693) 5 (text "20240301") (replicate 34 7) (Wrote 33) (board_with 13 (text "20240301") 0x46C9 ++ hex "FF")
+    ∷ edits 1 1 (board_with 13 (text "20240229") 0x9693) 5 (text "20240301") (replicate 34 7) (Ok 33) (board_with 13 (text "20240301") 0x46C9 ++ hex "FF")
     ∷ unedits 1 2 (board_with 13 (text "20240229") 0x9693) 5 (text "20230229") 40 (refusal 7 19)
     ∷ unedits 1 3 (board_with 13 (text "20240229") 0x9693) 5 (text "00000229") 40 (refusal 7 19)
     ∷ unedits 4 3 stamped 0 (text "02/29/2024 24:00:00") 40 (refusal 7 11)

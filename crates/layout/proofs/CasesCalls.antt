@@ -4,13 +4,10 @@ use Prim.Native.Nat.{ℕ}
 use mathlib.Core.Path.{◌≡◌, refl}
 use mathlib.Core.List.{List, [], ◌∷◌, map}
 use lib.ListN.{replicate}
+use Rattle.std.specs.Prelude.{Ok}
 use Rattle.layout.specs.declared.Part.{Part}
 use Rattle.layout.specs.declared.Reading.TheVariants.{Plain, Text, Number, Addresses, Numbered, Tests, Identified, Batched, Dated, Timed}
 use Rattle.layout.specs.declared.Entry.{Entry}
-use Rattle.layout.specs.declared.Checked.TheVariants.{Accepted}
-use Rattle.layout.specs.declared.Lookup.TheVariants.{Found}
-use Rattle.layout.specs.declared.Located.TheVariants.{At}
-use Rattle.layout.specs.declared.Made.TheVariants.{Wrote}
 use Rattle.layout.specs.Bytes.{part_at, string_number, refusal}
 use Rattle.layout.specs.Calendar.{date, time}
 use Rattle.layout.specs.Calls.{Told, told_refusal, told, told_checked, told_lookup, told_located}
@@ -31,8 +28,8 @@ cases =
     -- ---- 16 and 1: a number that is no format's before an unknown edition, and that before an edition that does not have the format; both at full width
     checks 0 1 no_tags (refuses 16 0)
     ∷ checks 1 1 (hex "00") (refuses 3 0)
-    ∷ checks 2 1 (hex "00") (Accepted 0)
-    ∷ checks 3 1 no_tags (Accepted 0)
+    ∷ checks 2 1 (hex "00") (Ok 0)
+    ∷ checks 3 1 no_tags (Ok 0)
     ∷ checks 4 1 no_tags (refuses 16 0)
     ∷ checks 4 2 [] (refuses 16 0)
     ∷ checks 4 3 [] (refuses 3 0)
@@ -52,13 +49,13 @@ cases =
     ∷ checks 1 4 [] (refuses 3 0)
     ∷ checks 1 5 [] (refuses 1 0)
     ∷ checks 2 0 (hex "00") (refuses 1 0)
-    ∷ checks 2 4 (hex "00") (Accepted 0)
+    ∷ checks 2 4 (hex "00") (Ok 0)
     ∷ checks 2 5 (hex "00") (refuses 1 0)
     ∷ checks 3 0 no_tags (refuses 1 0)
-    ∷ checks 3 1 no_tags (Accepted 0)
-    ∷ checks 3 2 no_tags (Accepted 0)
-    ∷ checks 3 3 no_tags (Accepted 0)
-    ∷ checks 3 4 no_tags (Accepted 0)
+    ∷ checks 3 1 no_tags (Ok 0)
+    ∷ checks 3 2 no_tags (Ok 0)
+    ∷ checks 3 3 no_tags (Ok 0)
+    ∷ checks 3 4 no_tags (Ok 0)
     ∷ checks 3 5 no_tags (refuses 1 0)
     ∷ checks 3 257 no_tags (refuses 1 0)
     ∷ sweeps 300 (λ f. checking f 1 (hex "00")) 0 (2 ∷ [])
@@ -99,15 +96,15 @@ cases =
     ∷ checks 1 1 (replicate 65536 0) (refuses 3 0)
     -- ---- the list: as many records as entries, more, or fewer (12); a refusal leaves the records
     ∷ fills 2 2 sku [] (refuses 12 0) []
-    ∷ fills 2 2 sku (old ∷ []) (Accepted 1) (sku_entry ∷ [])
-    ∷ fills 2 3 sku (old ∷ older ∷ []) (Accepted 1) (sku_entry ∷ older ∷ [])
-    ∷ fills 2 4 sku (old ∷ older ∷ []) (Accepted 1) (sku_entry ∷ older ∷ [])
-    ∷ fills 2 1 sku (old ∷ older ∷ []) (Accepted 1) (sku_entry ∷ older ∷ [])
-    ∷ fills 2 1 sku (old ∷ older ∷ old ∷ []) (Accepted 1) (sku_entry ∷ older ∷ old ∷ [])
-    ∷ fills 2 1 (hex "00") (old ∷ []) (Accepted 0) (old ∷ [])
-    ∷ fills 3 1 no_tags [] (Accepted 0) []
+    ∷ fills 2 2 sku (old ∷ []) (Ok 1) (sku_entry ∷ [])
+    ∷ fills 2 3 sku (old ∷ older ∷ []) (Ok 1) (sku_entry ∷ older ∷ [])
+    ∷ fills 2 4 sku (old ∷ older ∷ []) (Ok 1) (sku_entry ∷ older ∷ [])
+    ∷ fills 2 1 sku (old ∷ older ∷ []) (Ok 1) (sku_entry ∷ older ∷ [])
+    ∷ fills 2 1 sku (old ∷ older ∷ old ∷ []) (Ok 1) (sku_entry ∷ older ∷ old ∷ [])
+    ∷ fills 2 1 (hex "00") (old ∷ []) (Ok 0) (old ∷ [])
+    ∷ fills 3 1 no_tags [] (Ok 0) []
     ∷ fills 2 1 (hex "01 01 41 00 01 01 42 00 00") (old ∷ []) (refuses 12 0) (old ∷ [])
-    ∷ fills 2 1 (hex "01 01 41 00 01 01 42 00 00") (old ∷ older ∷ []) (Accepted 2) (keyed 0x01 513 0 4 2 1 4 0 ∷ keyed 0x01 513 4 4 6 1 8 0 ∷ [])
+    ∷ fills 2 1 (hex "01 01 41 00 01 01 42 00 00") (old ∷ older ∷ []) (Ok 2) (keyed 0x01 513 0 4 2 1 4 0 ∷ keyed 0x01 513 4 4 6 1 8 0 ∷ [])
     ∷ fills 2 2 three_bytes (old ∷ older ∷ []) (refuses 7 0) (old ∷ older ∷ [])
     -- ---- what an answer says: number, place, count, part and entries. Readings
     ∷ says Plain (0 ∷ [])
@@ -133,16 +130,16 @@ cases =
     ∷ tells (told_made (unwritten 14 2)) (saying 14 2 0 (part_at 0 0) [])
     -- what is not refused has number 0 and place 0
     ∷ tells (told 5 (part_at 6 7) (old ∷ older ∷ [])) (saying 0 0 5 (part_at 6 7) (old ∷ older ∷ []))
-    ∷ tells (told_checked (Accepted 5)) (saying 0 0 5 (part_at 0 0) [])
-    ∷ tells (told_lookup (Found sku_entry)) (saying 0 0 1 (part_at 0 0) (sku_entry ∷ []))
-    ∷ tells (told_located (At (part_at 6 2))) (saying 0 0 2 (part_at 6 2) [])
-    ∷ tells (told_made (Wrote 23)) (saying 0 0 23 (part_at 0 0) [])
+    ∷ tells (told_checked (Ok 5)) (saying 0 0 5 (part_at 0 0) [])
+    ∷ tells (told_lookup (Ok sku_entry)) (saying 0 0 1 (part_at 0 0) (sku_entry ∷ []))
+    ∷ tells (told_located (Ok (part_at 6 2))) (saying 0 0 2 (part_at 6 2) [])
+    ∷ tells (told_made (Ok 23)) (saying 0 0 23 (part_at 0 0) [])
     -- a part and its twin: the bytes, and the number and place
-    ∷ shows (text "ABCDEF") (At (part_at 2 3)) (text "CDE")
-    ∷ shows (text "ABCDEF") (At (part_at 0 6)) (text "ABCDEF")
-    ∷ shows (text "ABCDEF") (At (part_at 6 0)) []
+    ∷ shows (text "ABCDEF") (Ok (part_at 2 3)) (text "CDE")
+    ∷ shows (text "ABCDEF") (Ok (part_at 0 6)) (text "ABCDEF")
+    ∷ shows (text "ABCDEF") (Ok (part_at 6 0)) []
     ∷ shows (text "ABCDEF") (nowhere 13 0) []
-    ∷ settles (At (part_at 6 2)) (refusal 0 0)
+    ∷ settles (Ok (part_at 6 2)) (refusal 0 0)
     ∷ settles (nowhere 6 4) (refusal 6 4)
     ∷ []
 

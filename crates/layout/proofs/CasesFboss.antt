@@ -4,11 +4,9 @@ use Prim.Native.Nat.{ℕ}
 use mathlib.Core.Path.{◌≡◌, refl}
 use mathlib.Core.List.{List, [], ◌∷◌, ◌++◌, map}
 use lib.ListN.{length, replicate}
+use Rattle.std.specs.Prelude.{Ok}
 use Rattle.layout.specs.declared.Reading.TheVariants.{Plain, Text, Number, Addresses, Dated}
 use Rattle.layout.specs.declared.Entry.{Entry}
-use Rattle.layout.specs.declared.Checked.TheVariants.{Accepted}
-use Rattle.layout.specs.declared.Lookup.TheVariants.{Found}
-use Rattle.layout.specs.declared.Located.TheVariants.{At}
 use Rattle.layout.specs.Bytes.{part_at}
 use Rattle.layout.specs.Calendar.{date}
 use Rattle.layout.proofs.Cases.{text, hex, run, digits, fourths, fboss_of, five, board_with, with_block, bare, refuses, misses, nowhere, checking, writing, naming}
@@ -114,15 +112,15 @@ cases =
     ∷ alike 1 (begun (hex "FA 02 7D E5")) (refuses 10 6)
     ∷ alike 1 (begun (hex "FA 02 7C E4")) (refuses 10 6)
     ∷ alike 1 (begun (hex "FA 02 E4 7D")) (refuses 10 6)
-    ∷ alike 1 (fboss_of five 0x4826) (Accepted 5)
+    ∷ alike 1 (fboss_of five 0x4826) (Ok 5)
     ∷ checks 1 2 (fboss_of five 0x4827) (refuses 10 21)
     ∷ checks 1 1 (fboss_of five 0x4726) (refuses 10 21)
     ∷ checks 1 2 (fboss_of five 0x2648) (refuses 10 21)
     ∷ checks 1 1 (fboss_of (hex "01 01 7F") 0xCD56) (refuses 7 4)
     ∷ checks 1 2 (fboss_of (hex "01 01 7F") 0x56CD) (refuses 10 9)
     -- nothing after the end is looked at, an entry, an end or another check
-    ∷ checks 1 1 (fboss_of five 0x4826 ++ hex "00") (Accepted 5)
-    ∷ checks 1 2 (fboss_of five 0x4826 ++ hex "00 FF FA 02 00 00") (Accepted 5)
+    ∷ checks 1 1 (fboss_of five 0x4826 ++ hex "00") (Ok 5)
+    ∷ checks 1 2 (fboss_of five 0x4826 ++ hex "00 FF FA 02 00 00") (Ok 5)
     -- ---- 11: each required code missing, one at a time; after 7 and 8
     ∷ checks 1 1 (fboss_of (hex "08 01 05 09 01 00 0A 01 01 0B 01 42") 0xD2C4) (refuses 11 0)
     ∷ checks 1 2 (fboss_of (hex "01 01 41 09 01 00 0A 01 01 0B 01 42") 0x1536) (refuses 11 0)
@@ -130,7 +128,7 @@ cases =
     ∷ checks 1 2 (fboss_of (hex "01 01 41 08 01 05 09 01 00 0B 01 42") 0x3FE6) (refuses 11 0)
     ∷ checks 1 1 (fboss_of (hex "01 01 41 08 01 05 09 01 00 0A 01 01") 0x7071) (refuses 11 0)
     -- the five in another order; a neighbour in the place of one; 8 and 7 come before 11
-    ∷ checks 1 2 (fboss_of (hex "0B 01 42 0A 01 01 09 01 00 08 01 05 01 01 41") 0xF0D3) (Accepted 5)
+    ∷ checks 1 2 (fboss_of (hex "0B 01 42 0A 01 01 09 01 00 08 01 05 01 01 41") 0xF0D3) (Ok 5)
     ∷ checks 1 1 (fboss_of (hex "02 01 41 08 01 05 09 01 00 0A 01 01 0B 01 42") 0xAB03) (refuses 11 0)
     ∷ checks 1 2 (fboss_of (hex "01 01 41 07 01 41 09 01 00 0A 01 01 0B 01 42") 0x84EA) (refuses 11 0)
     ∷ checks 1 1 (fboss_of (hex "01 01 41 08 01 05 09 01 00 0A 01 01 0C 01 42") 0xCDB6) (refuses 11 0)
@@ -140,7 +138,7 @@ cases =
     -- text, each byte 20h to 7Eh
     ∷ checks 1 2 (lone 1 (hex "7F") 0xCD56) (refuses 7 4)
     ∷ checks 1 1 (board_with 2 (hex "7F") 0xCA65) (refuses 7 19)
-    ∷ checks 1 2 (board_with 2 (hex "7E") 0xDA44) (Accepted 6)
+    ∷ checks 1 2 (board_with 2 (hex "7E") 0xDA44) (Ok 6)
     ∷ checks 1 1 (lone 2 (hex "1F") 0xF8A0) (refuses 7 4)
     ∷ checks 1 2 (lone 2 (hex "20") 0x3F1C) (refuses 11 0)
     ∷ checks 1 1 (lone 2 (hex "7E") 0x8427) (refuses 11 0)
@@ -195,8 +193,8 @@ cases =
     ∷ checks 1 2 (board_with 11 (text "C") 0xA32B) (refuses 8 19)
     ∷ checks 1 1 (fboss_of (five ++ hex "02 01 41 63 01 00 02 01 42") 0x67C2) (refuses 8 25)
     ∷ checks 1 2 (fboss_of (five ++ hex "02 01 41 63 01 00 02 01 7F") 0x803C) (refuses 7 25)
-    ∷ checks 1 1 (fboss_of (five ++ hex "63 00 63 00") 0x434E) (Accepted 7)
-    ∷ checks 1 1 (fboss_of (five ++ hex "12 08 00 00 00 00 00 00 00 00 12 08 00 00 00 00 00 00 00 00") 0x7786) (Accepted 7)
+    ∷ checks 1 1 (fboss_of (five ++ hex "63 00 63 00") 0x434E) (Ok 7)
+    ∷ checks 1 1 (fboss_of (five ++ hex "12 08 00 00 00 00 00 00 00 00 12 08 00 00 00 00 00 00 00 00") 0x7786) (Ok 7)
     ∷ checks 1 3 (fboss_of (five ++ hex "12 08 00 00 00 00 00 00 00 00 12 08 00 00 00 00 00 00 00 00") 0x7786) (refuses 8 29)
     ∷ checks 1 2 (fboss_of (five ++ hex "12 08 00 00 00 00 00 00 00 00 12 08 00 00 00 00 00 00 00 00") 0x7786) (refuses 8 29)
     -- ---- the same rules, by writes of one field: the number 11 says that no rule is broken
@@ -257,35 +255,35 @@ cases =
     ∷ lists 1 2 every_code (first_sixteen ++ four_blocks)
     ∷ lists 1 3 every_code (first_sixteen ++ four_blocks)
     ∷ lists 1 4 every_code (first_sixteen ++ four_blocks)
-    ∷ finds 1 2 every_code 19 (Found (bare 20 276 134 10 136 8 (Addresses 0x020000000000 10)))
+    ∷ finds 1 2 every_code 19 (Ok (bare 20 276 134 10 136 8 (Addresses 0x020000000000 10)))
     -- year, month and day of a date
-    ∷ finds 1 1 (board_with 13 (text "00040229") 0x9275) 5 (Found (bare 13 269 19 10 21 8 (Dated (date 4 2 29))))
-    ∷ finds 1 3 (board_with 13 (text "20231110") 0x1AD9) 5 (Found (bare 13 269 19 10 21 8 (Dated (date 2023 11 10))))
+    ∷ finds 1 1 (board_with 13 (text "00040229") 0x9275) 5 (Ok (bare 13 269 19 10 21 8 (Dated (date 4 2 29))))
+    ∷ finds 1 3 (board_with 13 (text "20231110") 0x1AD9) 5 (Ok (bare 13 269 19 10 21 8 (Dated (date 2023 11 10))))
     -- codes that no edition names, with any value
     ∷ lists 1 2 (fboss_of (five ++ hex "15 00 F9 02 00 FF FB 01 FA FE 01 02") 0x3DB3)
     (bare 1 257 4 3 6 1 Text ∷ bare 8 264 7 3 9 1 (Number 5) ∷ bare 9 265 10 3 12 1 (Number 0) ∷ bare 10 266 13 3 15 1 (Number 1) ∷ bare 11 267 16 3 18 1 Text
     ∷ bare 21 0 19 2 21 0 Plain ∷ bare 249 0 21 4 23 2 Plain ∷ bare 251 0 25 3 27 1 Plain ∷ bare 254 0 28 3 30 1 Plain ∷ [])
     -- entry, value and step: the first, in the middle, the last and past it
-    ∷ checks 1 2 with_block (Accepted 6)
-    ∷ finds 1 1 with_block 0 (Found (bare 1 257 4 3 6 1 Text))
-    ∷ finds 1 1 with_block 3 (Found (bare 10 266 13 3 15 1 (Number 1)))
-    ∷ finds 1 1 with_block 5 (Found (bare 17 0 19 10 21 8 Plain))
-    ∷ finds 1 2 with_block 5 (Found (bare 17 273 19 10 21 8 (Addresses 0x020000000001 8)))
-    ∷ finds 1 3 with_block 5 (Found (bare 17 273 19 10 21 8 (Addresses 0x020000000001 8)))
+    ∷ checks 1 2 with_block (Ok 6)
+    ∷ finds 1 1 with_block 0 (Ok (bare 1 257 4 3 6 1 Text))
+    ∷ finds 1 1 with_block 3 (Ok (bare 10 266 13 3 15 1 (Number 1)))
+    ∷ finds 1 1 with_block 5 (Ok (bare 17 0 19 10 21 8 Plain))
+    ∷ finds 1 2 with_block 5 (Ok (bare 17 273 19 10 21 8 (Addresses 0x020000000001 8)))
+    ∷ finds 1 3 with_block 5 (Ok (bare 17 273 19 10 21 8 (Addresses 0x020000000001 8)))
     ∷ finds 1 1 with_block 6 (misses 13 0)
     ∷ finds 1 2 with_block 6 (misses 13 0)
     ∷ finds 1 2 with_block 4294967296 (misses 13 0)
     ∷ finds 1 2 (begun (hex "01 00 FF")) 0 (misses 6 6)
-    ∷ values 1 1 with_block 0 (At (part_at 6 1)) (text "A")
-    ∷ values 1 2 with_block 3 (At (part_at 15 1)) (hex "01")
-    ∷ values 1 1 with_block 5 (At (part_at 21 8)) (hex "02 00 00 00 00 01 00 08")
-    ∷ values 1 2 with_block 5 (At (part_at 21 8)) (hex "02 00 00 00 00 01 00 08")
+    ∷ values 1 1 with_block 0 (Ok (part_at 6 1)) (text "A")
+    ∷ values 1 2 with_block 3 (Ok (part_at 15 1)) (hex "01")
+    ∷ values 1 1 with_block 5 (Ok (part_at 21 8)) (hex "02 00 00 00 00 01 00 08")
+    ∷ values 1 2 with_block 5 (Ok (part_at 21 8)) (hex "02 00 00 00 00 01 00 08")
     ∷ values 1 1 with_block 6 (nowhere 13 0) []
     ∷ values 1 2 (begun (hex "01 00 FF")) 0 (nowhere 6 6) []
-    ∷ steps 1 1 0 with_block (Found (bare 1 257 4 3 6 1 Text)) 1
-    ∷ steps 1 2 3 with_block (Found (bare 10 266 13 3 15 1 (Number 1))) 4
-    ∷ steps 1 1 5 with_block (Found (bare 17 0 19 10 21 8 Plain)) 6
-    ∷ steps 1 2 5 with_block (Found (bare 17 273 19 10 21 8 (Addresses 0x020000000001 8))) 6
+    ∷ steps 1 1 0 with_block (Ok (bare 1 257 4 3 6 1 Text)) 1
+    ∷ steps 1 2 3 with_block (Ok (bare 10 266 13 3 15 1 (Number 1))) 4
+    ∷ steps 1 1 5 with_block (Ok (bare 17 0 19 10 21 8 Plain)) 6
+    ∷ steps 1 2 5 with_block (Ok (bare 17 273 19 10 21 8 (Addresses 0x020000000001 8))) 6
     ∷ steps 1 2 6 with_block (misses 13 0) 6
     ∷ steps 1 2 7 with_block (misses 13 0) 7
     ∷ steps 1 2 3 (begun (hex "01 00 FF")) (misses 6 6) 3

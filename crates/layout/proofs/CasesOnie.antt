@@ -4,8 +4,8 @@ use Prim.Native.Nat.{ℕ, ◌+◌, ◌-◌}
 use mathlib.Core.Path.{◌≡◌, refl}
 use mathlib.Core.List.{List, [], ◌∷◌, ◌++◌, map}
 use lib.ListN.{length, take, drop, replicate}
+use Rattle.std.specs.Prelude.{Ok}
 use Rattle.layout.specs.declared.Reading.TheVariants.{Plain}
-use Rattle.layout.specs.declared.Checked.TheVariants.{Accepted}
 use Rattle.layout.specs.Write.{write_image}
 use Rattle.layout.proofs.Cases.{text, hex, run, digits, fourths, headed, onie_as, onie_of, no_entries, bare, field, refuses, made_number, checking, writing, naming}
 use Rattle.layout.proofs.Cases.{Case, check32, checks, sweeps, lists, given, wanted}
@@ -52,7 +52,7 @@ cases =
     ∷ check32 (hex "FF FF FF FF") 0xFFFFFFFF
     ∷ check32 (hex "08 44 51 30 30 30 4D 50 57 00 09 00 00 00 00 00 00 00 00 00") 0x0260514B
     -- ---- no entries
-    ∷ checks 4 3 (hex "54 6C 76 49 6E 66 6F 00 01 00 06 FE 04 D4 43 1C 18") (Accepted 0)
+    ∷ checks 4 3 (hex "54 6C 76 49 6E 66 6F 00 01 00 06 FE 04 D4 43 1C 18") (Ok 0)
     ∷ lists 4 3 no_entries []
     -- ---- the header. 3: shorter than 11 bytes, whatever stands there
     ∷ checks 4 3 (hex "54 6C 76 49 6E 66 6F 00 01 00") (refuses 3 0)
@@ -85,7 +85,7 @@ cases =
     ∷ checks 4 3 (headed 2048 (replicate 2048 0x00)) (refuses 6 11)
     ∷ checks 4 3 (headed 65535 (replicate 65525 0x00)) (refuses 5 9)
     -- 2,048: an image of 2,059 bytes
-    ∷ checks 4 3 longest (Accepted 8)
+    ∷ checks 4 3 longest (Ok 8)
     -- 5 at 9, before the walk: one byte past the image
     ∷ checks 4 3 (hex "54 6C 76 49 6E 66 6F 00 01 00 06 FE 04 D4 43 1C") (refuses 5 9)
     ∷ checks 4 3 (headed 1 []) (refuses 5 9)
@@ -112,22 +112,22 @@ cases =
     ∷ checks 4 3 (headed 3 (hex "FE 04 D4 43 1C 18")) (refuses 5 11)
     ∷ checks 4 3 (headed 4 (hex "FE 04 D4 43 1C 18")) (refuses 5 11)
     ∷ checks 4 3 (headed 5 (hex "FE 04 D4 43 1C 18")) (refuses 5 11)
-    ∷ checks 4 3 (headed 6 (hex "FE 04 D4 43 1C 18")) (Accepted 0)
+    ∷ checks 4 3 (headed 6 (hex "FE 04 D4 43 1C 18")) (Ok 0)
     ∷ sweeps 20 (λ d. checking 4 3 (headed d (hex "FE 04 00 00 00 00 00 00 00 00"))) 10 (6 ∷ [])
     ∷ sweeps 20 (λ d. checking 4 3 (headed d (hex "FE 04 00 00 00 00 00 00 00 00"))) 5 (run 0 5 ++ run 7 19)
     -- high byte first, both bytes in use; a low byte of 00h and of FFh
-    ∷ checks 4 3 (onie_of (block (hex "43 CC 45 E5") 254) (hex "72 AD F7 D5")) (Accepted 1)
-    ∷ checks 4 3 (onie_of (block (hex "C4 15 AB 08") 248) (hex "72 AD F7 D5")) (Accepted 1)
-    ∷ checks 4 3 (onie_of (block (hex "DD 5B 30 9E") 247) (hex "72 AD F7 D5")) (Accepted 1)
-    ∷ checks 4 3 (onie_of (block (hex "E2 96 80 93") 255) (hex "72 AD F7 D5")) (Accepted 1)
+    ∷ checks 4 3 (onie_of (block (hex "43 CC 45 E5") 254) (hex "72 AD F7 D5")) (Ok 1)
+    ∷ checks 4 3 (onie_of (block (hex "C4 15 AB 08") 248) (hex "72 AD F7 D5")) (Ok 1)
+    ∷ checks 4 3 (onie_of (block (hex "DD 5B 30 9E") 247) (hex "72 AD F7 D5")) (Ok 1)
+    ∷ checks 4 3 (onie_of (block (hex "E2 96 80 93") 255) (hex "72 AD F7 D5")) (Ok 1)
     ∷ checks 4 3 (hex "54 6C 76 49 6E 66 6F 00 01 06 00 FE 04 D4 43 1C 18") (refuses 5 9)
     -- a number that is no byte is no part of a length
     ∷ checks 4 3 (hex "54 6C 76 49 6E 66 6F 00 01 00" ++ (256 ∷ replicate 256 0x00)) (refuses 5 9)
     ∷ checks 4 3 (hex "54 6C 76 49 6E 66 6F 00 01 00" ++ (255 ∷ replicate 255 0x00)) (refuses 6 11)
     -- bytes from the declared end on are not looked at
-    ∷ checks 4 3 (no_entries ++ hex "00") (Accepted 0)
-    ∷ checks 4 3 (no_entries ++ hex "FE 04 00 00 00 00 21 01") (Accepted 0)
-    ∷ checks 4 3 (board ++ hex "FF FF 00") (Accepted 5)
+    ∷ checks 4 3 (no_entries ++ hex "00") (Ok 0)
+    ∷ checks 4 3 (no_entries ++ hex "FE 04 00 00 00 00 21 01") (Ok 0)
+    ∷ checks 4 3 (board ++ hex "FF FF 00") (Ok 5)
     -- ---- frames. 6: codes 00h and FFh, with a length byte or none (00h with none: above)
     ∷ checks 4 3 (headed 1 (hex "FF")) (refuses 6 11)
     ∷ checks 4 3 (headed 2 (hex "00 00")) (refuses 6 11)
@@ -173,7 +173,7 @@ cases =
     ∷ lists 4 3 (onie_of (hex "FB 00 01 01 FE") (hex "FE 8D 90 BE")) (bare 0xFB 0 11 2 13 0 Plain ∷ bare 0x01 0 13 3 15 1 Plain ∷ [])
     ∷ lists 4 3 (onie_of (hex "FA 02 FE 04") (hex "C4 AC EC D3") ++ hex "21 01 41 FE 04 00 00 00 00") (bare 0xFA 0 11 4 13 2 Plain ∷ [])
     -- ---- 10: two bytes after FEh. High byte first, over all up to and including FE 04, with the final change; each byte of it
-    ∷ checks 4 3 (onie_of (hex "21 01 41") (hex "D5 F1 23 CB")) (Accepted 1)
+    ∷ checks 4 3 (onie_of (hex "21 01 41") (hex "D5 F1 23 CB")) (Ok 1)
     ∷ checks 4 3 (onie_of (hex "21 01 41") (hex "D4 F1 23 CB")) (refuses 10 16)
     ∷ checks 4 3 (onie_of (hex "21 01 41") (hex "D5 71 23 CB")) (refuses 10 16)
     ∷ checks 4 3 (onie_of (hex "21 01 41") (hex "D5 F1 22 CB")) (refuses 10 16)
@@ -184,24 +184,24 @@ cases =
     ∷ checks 4 3 (hex "54 6C 76 49 6E 66 6F 00 01 00 06 FE 04 D4 43 1C 19") (refuses 10 13)
     ∷ checks 4 3 (hex "54 6C 76 49 6E 66 6F 00 01 00 06 FE 04 18 1C 43 D4") (refuses 10 13)
     -- checks of bytes 00h and FFh alone
-    ∷ checks 4 3 (onie_of (hex "FD 04 D3 9A 7F 75") (hex "00 FF FF FF")) (Accepted 1)
-    ∷ checks 4 3 (onie_of (hex "FD 04 C5 07 33 DA") (hex "FF 00 00 00")) (Accepted 1)
-    ∷ checks 4 3 (onie_of (hex "FD 04 40 13 C1 44") (hex "FF FF FF FF")) (Accepted 1)
+    ∷ checks 4 3 (onie_of (hex "FD 04 D3 9A 7F 75") (hex "00 FF FF FF")) (Ok 1)
+    ∷ checks 4 3 (onie_of (hex "FD 04 C5 07 33 DA") (hex "FF 00 00 00")) (Ok 1)
+    ∷ checks 4 3 (onie_of (hex "FD 04 40 13 C1 44") (hex "FF FF FF FF")) (Ok 1)
     -- after the frames, before 7 and 8
     ∷ checks 4 3 (onie_of (hex "21 01 7F") (hex "FB 04 EB 51")) (refuses 7 11)
     ∷ checks 4 3 (onie_of (hex "21 01 7F") (hex "FB 04 EB 50")) (refuses 10 16)
     ∷ checks 4 3 (onie_of (hex "21 01 41 21 01 41") (hex "9C 4E A7 A4")) (refuses 10 19)
     ∷ checks 4 3 (headed 10 (hex "21 01 7F 00 FE 04 00 00 00 00")) (refuses 6 14)
     -- ---- 7 in the reader. Text, each byte 20h to 7Eh, of any length
-    ∷ checks 4 3 (onie_of (hex "21 02 20 7E 22 02 20 7E 23 02 20 7E 2B 02 20 7E 2D 02 20 7E") (hex "D8 E5 C8 94")) (Accepted 5)
-    ∷ checks 4 3 (onie_of (hex "21 00 22 00 23 00 2B 00 2D 00") (hex "61 BA 66 2B")) (Accepted 5)
+    ∷ checks 4 3 (onie_of (hex "21 02 20 7E 22 02 20 7E 23 02 20 7E 2B 02 20 7E 2D 02 20 7E") (hex "D8 E5 C8 94")) (Ok 5)
+    ∷ checks 4 3 (onie_of (hex "21 00 22 00 23 00 2B 00 2D 00") (hex "61 BA 66 2B")) (Ok 5)
     ∷ checks 4 3 (onie_of (hex "21 01 1F") (hex "B3 D3 20 71")) (refuses 7 11)
     ∷ checks 4 3 (onie_of (hex "22 01 7F") (hex "BC A4 91 81")) (refuses 7 11)
     ∷ checks 4 3 (onie_of (hex "23 03 41 42 1F") (hex "99 47 BA 3F")) (refuses 7 11)
     ∷ checks 4 3 (onie_of (hex "2B 03 FF 41 42") (hex "73 8E 50 20")) (refuses 7 11)
     ∷ checks 4 3 (onie_of (hex "21 01 41 2D 01 00") (hex "28 E6 AD 53")) (refuses 7 14)
     -- six bytes; two bytes; two capitals; at least four bytes
-    ∷ checks 4 3 (onie_of (hex "24 06 00 00 00 00 00 00 2A 02 00 00 2C 02 41 5A FD 04 FF 00 7F 80") (hex "D6 43 39 D8")) (Accepted 4)
+    ∷ checks 4 3 (onie_of (hex "24 06 00 00 00 00 00 00 2A 02 00 00 2C 02 41 5A FD 04 FF 00 7F 80") (hex "D6 43 39 D8")) (Ok 4)
     ∷ checks 4 3 (onie_of (hex "24 05 00 00 00 00 00") (hex "33 1D FB 84")) (refuses 7 11)
     ∷ checks 4 3 (onie_of (hex "24 07 00 00 00 00 00 00 00") (hex "30 75 D8 F9")) (refuses 7 11)
     ∷ checks 4 3 (onie_of (hex "2A 01 00") (hex "D3 79 F5 2D")) (refuses 7 11)
@@ -214,8 +214,8 @@ cases =
     ∷ checks 4 3 (onie_of (hex "FD 00") (hex "F0 1D B3 D3")) (refuses 7 11)
     ∷ checks 4 3 (onie_of (hex "FD 04 00 00 00 00 FD 03 00 00 00") (hex "97 B2 69 DF")) (refuses 7 17)
     -- the date: 19 bytes, a day and a time of it
-    ∷ checks 4 3 (onie_of (hex "25 13" ++ text "12/31/9999 23:59:59") (hex "97 01 92 3E")) (Accepted 1)
-    ∷ checks 4 3 (onie_of (hex "25 13" ++ text "02/29/2000 00:00:00") (hex "1B 47 D8 32")) (Accepted 1)
+    ∷ checks 4 3 (onie_of (hex "25 13" ++ text "12/31/9999 23:59:59") (hex "97 01 92 3E")) (Ok 1)
+    ∷ checks 4 3 (onie_of (hex "25 13" ++ text "02/29/2000 00:00:00") (hex "1B 47 D8 32")) (Ok 1)
     ∷ checks 4 3 (onie_of (hex "25 13" ++ text "99/99/9999 99:99:99") (hex "94 AC 2E 84")) (refuses 7 11)
     ∷ checks 4 3 (onie_of (hex "25 13" ++ text "02/29/1900 00:00:00") (hex "A4 6C 4D 0B")) (refuses 7 11)
     ∷ checks 4 3 (onie_of (hex "25 13" ++ text "31/12/2023 23:59:58") (hex "F6 BC 8A C5")) (refuses 7 11)
@@ -228,7 +228,7 @@ cases =
     ∷ checks 4 3 (onie_of (hex "25 13" ++ text "12-31-2023 23:59:58") (hex "18 8B D5 E7")) (refuses 7 11)
     ∷ checks 4 3 (onie_of (hex "25 00") (hex "13 FD 22 A5")) (refuses 7 11)
     -- no rule on what is not named
-    ∷ checks 4 3 (onie_of (hex "20 01 7F 26 00 27 01 7F 28 01 FF 29 03 00 00 00 2E 01 00 2F 01 FF FC 00 01 00 A1 01 7F") (hex "53 15 22 8F")) (Accepted 10)
+    ∷ checks 4 3 (onie_of (hex "20 01 7F 26 00 27 01 7F 28 01 FF 29 03 00 00 00 2E 01 00 2F 01 FF FC 00 01 00 A1 01 7F") (hex "53 15 22 8F")) (Ok 10)
     -- ---- the same rules, by writes of one field: the number 12 says that no rule is broken. The codes that take these bytes
     ∷ sweeps 300 (λ c. writing 4 3 c []) 12 (0x21 ∷ 0x22 ∷ 0x23 ∷ 0x2B ∷ 0x2D ∷ [])
     ∷ sweeps 300 (λ c. writing 4 3 c (hex "1F")) 12 []
@@ -307,8 +307,8 @@ cases =
     ∷ checks 4 3 (onie_of (hex "2B 00 2B 00") (hex "71 8D 91 4E")) (refuses 8 13)
     ∷ checks 4 3 (onie_of (hex "2C 02 41 41 2C 02 42 42") (hex "CF 32 8E 0C")) (refuses 8 15)
     ∷ checks 4 3 (onie_of (hex "2D 00 2D 00") (hex "82 BF 2D 8F")) (refuses 8 13)
-    ∷ checks 4 3 (onie_of (hex "FD 04 00 00 00 00 FD 04 00 00 00 00 FD 05 00 00 00 00 00") (hex "BD F9 B8 F4")) (Accepted 3)
-    ∷ checks 4 3 (onie_of (hex "26 00 26 00 FC 01 7F FC 01 7F") (hex "CA 11 88 8C")) (Accepted 4)
+    ∷ checks 4 3 (onie_of (hex "FD 04 00 00 00 00 FD 04 00 00 00 00 FD 05 00 00 00 00 00") (hex "BD F9 B8 F4")) (Ok 3)
+    ∷ checks 4 3 (onie_of (hex "26 00 26 00 FC 01 7F FC 01 7F") (hex "CA 11 88 8C")) (Ok 4)
     ∷ checks 4 3 (onie_of (hex "21 00 FD 04 00 00 00 00 22 00 FD 04 00 00 00 00 21 00") (hex "1C 4F 9E C9")) (refuses 8 27)
     ∷ sweeps 300 (λ c. writing_twice c (hex "")) 8 (0x21 ∷ 0x22 ∷ 0x23 ∷ 0x2B ∷ 0x2D ∷ [])
     ∷ sweeps 300 (λ c. writing_twice c (text "CZ")) 8 (0x21 ∷ 0x22 ∷ 0x23 ∷ run 0x2A 0x2D)

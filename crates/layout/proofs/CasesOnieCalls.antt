@@ -4,13 +4,10 @@ use Prim.Native.Nat.{ℕ}
 use mathlib.Core.Path.{◌≡◌, refl}
 use mathlib.Core.List.{List, [], ◌∷◌, ◌++◌, map}
 use lib.ListN.{replicate}
+use Rattle.std.specs.Prelude.{Ok}
 use Rattle.layout.specs.declared.Reading.TheVariants.{Plain, Text, Number, Addresses, Timed}
 use Rattle.layout.specs.declared.Entry.{Entry}
 use Rattle.layout.specs.declared.Field.{Field}
-use Rattle.layout.specs.declared.Checked.TheVariants.{Accepted}
-use Rattle.layout.specs.declared.Lookup.TheVariants.{Found}
-use Rattle.layout.specs.declared.Located.TheVariants.{At}
-use Rattle.layout.specs.declared.Made.TheVariants.{Wrote}
 use Rattle.layout.specs.Bytes.{part_at, refusal}
 use Rattle.layout.specs.Calendar.{date, time}
 use Rattle.layout.specs.Write.{write_image}
@@ -82,8 +79,8 @@ cases =
     checks 4 0 no_entries (refuses 1 0)
     ∷ checks 4 1 no_entries (refuses 16 0)
     ∷ checks 4 2 no_entries (refuses 16 0)
-    ∷ checks 4 3 no_entries (Accepted 0)
-    ∷ checks 4 4 no_entries (Accepted 0)
+    ∷ checks 4 3 no_entries (Ok 0)
+    ∷ checks 4 4 no_entries (Ok 0)
     ∷ checks 4 5 no_entries (refuses 1 0)
     ∷ checks 4 9 no_entries (refuses 1 0)
     ∷ sweeps 300 (λ e. checking 4 e no_entries) 0 (3 ∷ 4 ∷ [])
@@ -123,55 +120,55 @@ cases =
     ∷ lists 4 3 every_code every_record
     ∷ lists 4 4 every_code every_record
     ∷ entries 4 3 board board_records
-    ∷ finds 4 3 (onie_of (hex "24 06 FF FE FD FC FB FA") (hex "11 19 EB 26")) 0 (Found (bare 0x24 1060 11 8 13 6 (Addresses 0xFFFEFDFCFBFA 1)))
-    ∷ finds 4 3 (onie_of (hex "24 06 00 00 00 00 00 01") (hex "CF 2D 16 48")) 0 (Found (bare 0x24 1060 11 8 13 6 (Addresses 1 1)))
-    ∷ finds 4 3 (onie_of (hex "2A 02 FF FE") (hex "D6 7D 61 9F")) 0 (Found (bare 0x2A 1066 11 4 13 2 (Number 65534)))
-    ∷ finds 4 3 (onie_of (hex "2A 02 01 00") (hex "0F 9E 5E D1")) 0 (Found (bare 0x2A 1066 11 4 13 2 (Number 256)))
+    ∷ finds 4 3 (onie_of (hex "24 06 FF FE FD FC FB FA") (hex "11 19 EB 26")) 0 (Ok (bare 0x24 1060 11 8 13 6 (Addresses 0xFFFEFDFCFBFA 1)))
+    ∷ finds 4 3 (onie_of (hex "24 06 00 00 00 00 00 01") (hex "CF 2D 16 48")) 0 (Ok (bare 0x24 1060 11 8 13 6 (Addresses 1 1)))
+    ∷ finds 4 3 (onie_of (hex "2A 02 FF FE") (hex "D6 7D 61 9F")) 0 (Ok (bare 0x2A 1066 11 4 13 2 (Number 65534)))
+    ∷ finds 4 3 (onie_of (hex "2A 02 01 00") (hex "0F 9E 5E D1")) 0 (Ok (bare 0x2A 1066 11 4 13 2 (Number 256)))
     -- the list: as many records as entries, more, or fewer (12)
-    ∷ fills 4 3 board (old ∷ older ∷ old ∷ older ∷ old ∷ older ∷ []) (Accepted 5) (board_records ++ (older ∷ []))
+    ∷ fills 4 3 board (old ∷ older ∷ old ∷ older ∷ old ∷ older ∷ []) (Ok 5) (board_records ++ (older ∷ []))
     ∷ fills 4 3 board (old ∷ older ∷ old ∷ older ∷ []) (refuses 12 0) (old ∷ older ∷ old ∷ older ∷ [])
-    ∷ fills 4 3 no_entries (old ∷ []) (Accepted 0) (old ∷ [])
+    ∷ fills 4 3 no_entries (old ∷ []) (Ok 0) (old ∷ [])
     ∷ fills 4 3 (onie_of (hex "21 01 7F") (hex "FB 04 EB 51")) (old ∷ []) (refuses 7 11) (old ∷ [])
     -- entry, value and step: the first, in the middle, the last and past it; a refused image
-    ∷ finds 4 3 board 0 (Found (bare 0x21 1057 11 3 13 1 Text))
-    ∷ finds 4 3 (onie_of (hex "25 13" ++ text "01/02/0003 04:05:06") (hex "D2 04 35 0D")) 0 (Found (bare 0x25 1061 11 21 13 19 (Timed (date 3 1 2) (time 4 5 6))))
-    ∷ finds 4 3 board 2 (Found (bare 0x99 0 18 4 20 2 Plain))
-    ∷ finds 4 3 board 4 (Found (bare 0xFD 1277 28 6 30 4 Plain))
+    ∷ finds 4 3 board 0 (Ok (bare 0x21 1057 11 3 13 1 Text))
+    ∷ finds 4 3 (onie_of (hex "25 13" ++ text "01/02/0003 04:05:06") (hex "D2 04 35 0D")) 0 (Ok (bare 0x25 1061 11 21 13 19 (Timed (date 3 1 2) (time 4 5 6))))
+    ∷ finds 4 3 board 2 (Ok (bare 0x99 0 18 4 20 2 Plain))
+    ∷ finds 4 3 board 4 (Ok (bare 0xFD 1277 28 6 30 4 Plain))
     ∷ finds 4 3 board 5 (misses 13 0)
     ∷ finds 4 3 no_entries 0 (misses 13 0)
     ∷ finds 4 3 (headed 7 (hex "FE 04 00 00 00 00 00")) 0 (misses 5 9)
-    ∷ values 4 3 board 0 (At (part_at 13 1)) (text "A")
-    ∷ values 4 3 board 1 (At (part_at 16 2)) (hex "00 03")
-    ∷ values 4 3 board 2 (At (part_at 20 2)) (hex "01 02")
-    ∷ values 4 3 board 4 (At (part_at 30 4)) (hex "05 06 07 08")
+    ∷ values 4 3 board 0 (Ok (part_at 13 1)) (text "A")
+    ∷ values 4 3 board 1 (Ok (part_at 16 2)) (hex "00 03")
+    ∷ values 4 3 board 2 (Ok (part_at 20 2)) (hex "01 02")
+    ∷ values 4 3 board 4 (Ok (part_at 30 4)) (hex "05 06 07 08")
     ∷ values 4 3 board 5 (nowhere 13 0) []
     ∷ values 4 3 (headed 7 (hex "FE 04 00 00 00 00 00")) 0 (nowhere 5 9) []
-    ∷ steps 4 3 0 board (Found (bare 0x21 1057 11 3 13 1 Text)) 1
-    ∷ steps 4 4 1 board (Found (bare 0x2A 1066 14 4 16 2 (Number 3))) 2
-    ∷ steps 4 3 1 board (Found (bare 0x2A 1066 14 4 16 2 (Number 3))) 2
-    ∷ steps 4 3 4 board (Found (bare 0xFD 1277 28 6 30 4 Plain)) 5
+    ∷ steps 4 3 0 board (Ok (bare 0x21 1057 11 3 13 1 Text)) 1
+    ∷ steps 4 4 1 board (Ok (bare 0x2A 1066 14 4 16 2 (Number 3))) 2
+    ∷ steps 4 3 1 board (Ok (bare 0x2A 1066 14 4 16 2 (Number 3))) 2
+    ∷ steps 4 3 4 board (Ok (bare 0xFD 1277 28 6 30 4 Plain)) 5
     ∷ steps 4 3 5 board (misses 13 0) 5
     ∷ steps 4 3 2 (headed 1 (hex "00")) (misses 6 11) 2
     -- ---- writes. No fields: one byte more than needed, just enough, one less
-    ∷ writes 4 3 [] [] (replicate 18 7) (Wrote 17) (hex "54 6C 76 49 6E 66 6F 00 01 00 06 FE 04 D4 43 1C 18 FF")
-    ∷ writes 4 3 [] [] (replicate 17 7) (Wrote 17) no_entries
+    ∷ writes 4 3 [] [] (replicate 18 7) (Ok 17) (hex "54 6C 76 49 6E 66 6F 00 01 00 06 FE 04 D4 43 1C 18 FF")
+    ∷ writes 4 3 [] [] (replicate 17 7) (Ok 17) no_entries
     ∷ writes 4 3 [] [] (replicate 16 7) (unwritten 12 0) (replicate 16 7)
     -- in list order; a key counts as empty
-    ∷ writes 4 3 (field 0x2C 0 2 ∷ keyed_field 0x21 99 99 2 3 ∷ field 0xFD 1 4 ∷ field 0x2A 3 2 ∷ field 0xFD 0 5 ∷ []) (text "CZabc") (replicate 44 7) (Wrote 43)
+    ∷ writes 4 3 (field 0x2C 0 2 ∷ keyed_field 0x21 99 99 2 3 ∷ field 0xFD 1 4 ∷ field 0x2A 3 2 ∷ field 0xFD 0 5 ∷ []) (text "CZabc") (replicate 44 7) (Ok 43)
     (onie_of (hex "2C 02 43 5A 21 03 61 62 63 FD 04 5A 61 62 63 2A 02 62 63 FD 05 43 5A 61 62 63") (hex "B1 B5 34 5D") ++ hex "FF")
     ∷ rounds 4 3 (field 0x25 0 19 ∷ field 0x24 3 6 ∷ field 0x2D 19 0 ∷ []) stamp 60
     (saying_bare 0x25 stamp ∷ saying_bare 0x24 (text "31/202") ∷ saying_bare 0x2D [] ∷ [])
     -- a value of 255 bytes: the declared length is 263. One more is 7
-    ∷ writes 4 3 (field 0xFD 0 255 ∷ []) ((hex "E2 96 80 93") ++ replicate 251 0) (replicate 275 7) (Wrote 274) (onie_of (block (hex "E2 96 80 93") 255) (hex "72 AD F7 D5") ++ hex "FF")
+    ∷ writes 4 3 (field 0xFD 0 255 ∷ []) ((hex "E2 96 80 93") ++ replicate 251 0) (replicate 275 7) (Ok 274) (onie_of (block (hex "E2 96 80 93") 255) (hex "72 AD F7 D5") ++ hex "FF")
     ∷ unwrites 4 3 (field 0x21 0 255 ∷ []) (replicate 255 0x41) 273 (refusal 12 0)
     ∷ unwrites 4 3 (field 0x21 0 256 ∷ []) (replicate 256 0x41) 300 (refusal 7 0)
     ∷ unwrites 4 3 (field 0x22 0 0 ∷ field 0xFD 0 256 ∷ []) (replicate 256 0x41) 300 (refusal 7 1)
     ∷ unwrites 4 3 (field 0xFD 0 255 ∷ []) (replicate 255 0x41) 273 (refusal 12 0)
     -- a declared length of 255 and of 256
-    ∷ writes 4 3 (field 0xFD 0 247 ∷ []) ((hex "DD 5B 30 9E") ++ replicate 251 0) (replicate 266 7) (Wrote 266) (onie_of (block (hex "DD 5B 30 9E") 247) (hex "72 AD F7 D5"))
-    ∷ writes 4 3 (field 0xFD 0 248 ∷ []) ((hex "C4 15 AB 08") ++ replicate 251 0) (replicate 267 7) (Wrote 267) (onie_of (block (hex "C4 15 AB 08") 248) (hex "72 AD F7 D5"))
+    ∷ writes 4 3 (field 0xFD 0 247 ∷ []) ((hex "DD 5B 30 9E") ++ replicate 251 0) (replicate 266 7) (Ok 266) (onie_of (block (hex "DD 5B 30 9E") 247) (hex "72 AD F7 D5"))
+    ∷ writes 4 3 (field 0xFD 0 248 ∷ []) ((hex "C4 15 AB 08") ++ replicate 251 0) (replicate 267 7) (Ok 267) (onie_of (block (hex "C4 15 AB 08") 248) (hex "72 AD F7 D5"))
     -- 2,059 bytes fit, where the output has them; one more is 12, whatever the output has
-    ∷ writes 4 3 (long_fields 241) long_values (replicate 2060 7) (Wrote 2059) (longest ++ hex "FF")
+    ∷ writes 4 3 (long_fields 241) long_values (replicate 2060 7) (Ok 2059) (longest ++ hex "FF")
     ∷ numbers (writing_long 241 2058) 12
     ∷ numbers (writing_long 242 2060) 12
     ∷ unwrites 4 3 (long_fields 255 ++ long_fields 255) long_values 5000 (refusal 12 0)
@@ -189,21 +186,21 @@ cases =
     ∷ unwrites 4 3 (field 0x2A 0 1 ∷ field 0x00 9 9 ∷ []) (text "AB") 0 (refusal 7 0)
     ∷ unwrites 4 3 (field 0x2A 0 2 ∷ []) (text "AB") 20 (refusal 12 0)
     -- ---- edits: the first entry, in the middle, the last; the declared length and the check follow
-    ∷ edits 4 3 board 0 (text "XYZ") (replicate 44 7) (Wrote 42)
+    ∷ edits 4 3 board 0 (text "XYZ") (replicate 44 7) (Ok 42)
     (onie_of (hex "21 03 58 59 5A 2A 02 00 03 99 02 01 02 FD 04 01 02 03 04 FD 04 05 06 07 08") (hex "03 10 EE 37") ++ hex "FF FF")
-    ∷ edits 4 3 board 0 [] (replicate 39 7) (Wrote 39) (onie_of (hex "21 00 2A 02 00 03 99 02 01 02 FD 04 01 02 03 04 FD 04 05 06 07 08") (hex "A8 5D F4 AF"))
-    ∷ edits 4 4 board 1 (hex "FF 00") (replicate 40 7) (Wrote 40) (onie_of (hex "21 01 41 2A 02 FF 00 99 02 01 02 FD 04 01 02 03 04 FD 04 05 06 07 08") (hex "24 D4 7C 63"))
-    ∷ edits 4 3 board 1 (hex "FF 00") (replicate 40 7) (Wrote 40) (onie_of (hex "21 01 41 2A 02 FF 00 99 02 01 02 FD 04 01 02 03 04 FD 04 05 06 07 08") (hex "24 D4 7C 63"))
-    ∷ edits 4 3 board 3 (hex "09 08 07 06 05") (replicate 41 7) (Wrote 41)
+    ∷ edits 4 3 board 0 [] (replicate 39 7) (Ok 39) (onie_of (hex "21 00 2A 02 00 03 99 02 01 02 FD 04 01 02 03 04 FD 04 05 06 07 08") (hex "A8 5D F4 AF"))
+    ∷ edits 4 4 board 1 (hex "FF 00") (replicate 40 7) (Ok 40) (onie_of (hex "21 01 41 2A 02 FF 00 99 02 01 02 FD 04 01 02 03 04 FD 04 05 06 07 08") (hex "24 D4 7C 63"))
+    ∷ edits 4 3 board 1 (hex "FF 00") (replicate 40 7) (Ok 40) (onie_of (hex "21 01 41 2A 02 FF 00 99 02 01 02 FD 04 01 02 03 04 FD 04 05 06 07 08") (hex "24 D4 7C 63"))
+    ∷ edits 4 3 board 3 (hex "09 08 07 06 05") (replicate 41 7) (Ok 41)
     (onie_of (hex "21 01 41 2A 02 00 03 99 02 01 02 FD 05 09 08 07 06 05 FD 04 05 06 07 08") (hex "05 41 96 C4"))
-    ∷ edits 4 3 board 4 (hex "01 02 03 04") (replicate 41 7) (Wrote 40)
+    ∷ edits 4 3 board 4 (hex "01 02 03 04") (replicate 41 7) (Ok 40)
     (onie_of (hex "21 01 41 2A 02 00 03 99 02 01 02 FD 04 01 02 03 04 FD 04 01 02 03 04") (hex "B7 47 1B 1A") ++ hex "FF")
-    ∷ edits 4 3 board 0 (text "A") (replicate 40 7) (Wrote 40) board
+    ∷ edits 4 3 board 0 (text "A") (replicate 40 7) (Ok 40) board
     -- what followed the old end is dropped
-    ∷ edits 4 3 (board ++ hex "FE 04 00 00 00 00") 1 (hex "00 04") (replicate 42 7) (Wrote 40)
+    ∷ edits 4 3 (board ++ hex "FE 04 00 00 00 00") 1 (hex "00 04") (replicate 42 7) (Ok 40)
     (onie_of (hex "21 01 41 2A 02 00 04 99 02 01 02 FD 04 01 02 03 04 FD 04 05 06 07 08") (hex "15 10 1A B4") ++ hex "FF FF")
     -- a declared length that passes 255
-    ∷ edits 4 3 (onie_of (hex "FD 04 01 02 03 04 2D 01 42") (hex "A2 84 2B 0F")) 0 ((hex "B1 05 58 9B") ++ replicate 251 0) (replicate 278 7) (Wrote 277)
+    ∷ edits 4 3 (onie_of (hex "FD 04 01 02 03 04 2D 01 42") (hex "A2 84 2B 0F")) 0 ((hex "B1 05 58 9B") ++ replicate 251 0) (replicate 278 7) (Ok 277)
     (onie_of (block (hex "B1 05 58 9B") 255 ++ hex "2D 01 42") (hex "80 5E 22 AB") ++ hex "FF")
     -- the image's own refusals; 13 at 0; 14 and 7 at the old entry's place; 12
     ∷ unedits 4 3 (onie_of (hex "21 01 41") (hex "D5 F1 23 CA")) 5 [] 3 (refusal 10 16)

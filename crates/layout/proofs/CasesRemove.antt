@@ -4,7 +4,7 @@ use Prim.Native.Nat.{ℕ}
 use mathlib.Core.Path.{◌≡◌, refl}
 use mathlib.Core.List.{List, [], ◌∷◌, ◌++◌, map}
 use lib.ListN.{replicate}
-use Rattle.layout.specs.declared.Made.TheVariants.{Wrote}
+use Rattle.std.specs.Prelude.{Ok}
 use Rattle.layout.specs.Bytes.{refusal}
 use Rattle.layout.specs.Remove.{remove_entry}
 use Rattle.layout.proofs.Cases.{hex, fboss_of, five, with_block, sku, two_names, three_bytes, no_tags, onie_of, no_entries, made_number}
@@ -23,18 +23,18 @@ text_and_block = fboss_of (five ++ hex "0C 01 41 11 08 02 00 00 00 00 01 00 08")
 abbrev pub cases : List Case
 cases =
     -- the last, the first and one in the middle
-    removes 2 1 sku 0 (replicate 3 7) (Wrote 1) (hex "00 FF FF")
-    ∷ removes 2 2 sku_and_feh 1 (replicate 10 7) (Wrote 9) (hex "01 03 53 4B 55 02 41 37 00 FF")
-    ∷ removes 2 1 sku_and_feh 0 (replicate 10 7) (Wrote 10) (hex "FE 80 01 41 04 01 02 03 04 00")
-    ∷ removes 2 2 two_names 0 (replicate 9 7) (Wrote 9) (hex "01 80 02 00 22 80 01 41 00")
-    ∷ removes 1 2 with_block 5 (replicate 24 7) (Wrote 23) (fboss_of five 0x4826 ++ hex "FF")
-    ∷ removes 1 1 text_and_block 5 (replicate 33 7) (Wrote 33) with_block
-    ∷ removes 3 1 batch_and_pool 1 (replicate 13 7) (Wrote 13) (hex "56 02 0D 80 00 01 02 03 04 05 34 12 CB")
-    ∷ removes 3 2 batch_and_pool 0 (replicate 11 7) (Wrote 10) (hex "56 02 0A 01 04 41 C2 C3 44 82 FF")
-    ∷ removes 3 1 all_tags 2 (replicate 17 7) (Wrote 17) (hex "56 02 11 10 02 11 0F 61 00 01 02 03 04 05 01 00 ED")
-    ∷ removes 3 1 (hex "56 02 07 01 01 C1 8F") 0 (replicate 4 7) (Wrote 4) no_tags
-    ∷ removes 4 3 (onie_of (hex "21 01 41") (hex "D5 F1 23 CB")) 0 (replicate 17 7) (Wrote 17) no_entries
-    ∷ removes 4 4 (onie_of (hex "FD 04 01 02 03 04 FD 04 01 02 03 04") (hex "97 75 CD F4")) 0 (replicate 24 7) (Wrote 23) (onie_of (hex "FD 04 01 02 03 04") (hex "CA A5 33 49") ++ hex "FF")
+    removes 2 1 sku 0 (replicate 3 7) (Ok 1) (hex "00 FF FF")
+    ∷ removes 2 2 sku_and_feh 1 (replicate 10 7) (Ok 9) (hex "01 03 53 4B 55 02 41 37 00 FF")
+    ∷ removes 2 1 sku_and_feh 0 (replicate 10 7) (Ok 10) (hex "FE 80 01 41 04 01 02 03 04 00")
+    ∷ removes 2 2 two_names 0 (replicate 9 7) (Ok 9) (hex "01 80 02 00 22 80 01 41 00")
+    ∷ removes 1 2 with_block 5 (replicate 24 7) (Ok 23) (fboss_of five 0x4826 ++ hex "FF")
+    ∷ removes 1 1 text_and_block 5 (replicate 33 7) (Ok 33) with_block
+    ∷ removes 3 1 batch_and_pool 1 (replicate 13 7) (Ok 13) (hex "56 02 0D 80 00 01 02 03 04 05 34 12 CB")
+    ∷ removes 3 2 batch_and_pool 0 (replicate 11 7) (Ok 10) (hex "56 02 0A 01 04 41 C2 C3 44 82 FF")
+    ∷ removes 3 1 all_tags 2 (replicate 17 7) (Ok 17) (hex "56 02 11 10 02 11 0F 61 00 01 02 03 04 05 01 00 ED")
+    ∷ removes 3 1 (hex "56 02 07 01 01 C1 8F") 0 (replicate 4 7) (Ok 4) no_tags
+    ∷ removes 4 3 (onie_of (hex "21 01 41") (hex "D5 F1 23 CB")) 0 (replicate 17 7) (Ok 17) no_entries
+    ∷ removes 4 4 (onie_of (hex "FD 04 01 02 03 04 FD 04 01 02 03 04") (hex "97 75 CD F4")) 0 (replicate 24 7) (Ok 23) (onie_of (hex "FD 04 01 02 03 04") (hex "CA A5 33 49") ++ hex "FF")
     -- 16, 1 and 2, then the image's own; 13 at 0; 14 at the entry, before 11 and 12; 11 at 0, before 12; 12 at 0
     ∷ unremoves 0 1 sku 0 3 (refusal 16 0)
     ∷ unremoves 4 2 no_entries 0 3 (refusal 16 0)

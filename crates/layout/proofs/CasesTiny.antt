@@ -4,11 +4,9 @@ use Prim.Native.Nat.{ℕ, ◌*◌, ◌/◌, ◌%◌}
 use mathlib.Core.Path.{◌≡◌, refl}
 use mathlib.Core.List.{List, [], ◌∷◌, ◌++◌, map}
 use lib.ListN.{replicate}
+use Rattle.std.specs.Prelude.{Ok}
 use Rattle.layout.specs.declared.Reading.TheVariants.{Plain, Addresses, Numbered, Tests, Identified, Batched}
 use Rattle.layout.specs.declared.Entry.{Entry}
-use Rattle.layout.specs.declared.Checked.TheVariants.{Accepted}
-use Rattle.layout.specs.declared.Lookup.TheVariants.{Found}
-use Rattle.layout.specs.declared.Located.TheVariants.{At}
 use Rattle.layout.specs.Bytes.{part_at, string_number}
 use Rattle.layout.proofs.Cases.{hex, run, named, bare, no_tags, refuses, misses, nowhere, checking, writing, naming}
 use Rattle.layout.proofs.Cases.{Case, checks, alike, sweeps, lists, entries, finds, values, strings, steps, given, wanted}
@@ -57,13 +55,13 @@ cases =
     ∷ sweeps 10 (λ n. checking 3 1 (0x56 ∷ 0x02 ∷ n ∷ hex "00 00 00")) 10 (4 ∷ [])
     ∷ sweeps 10 (λ n. checking 3 1 (0x56 ∷ 0x02 ∷ n ∷ hex "00 00 00")) 6 (5 ∷ 6 ∷ [])
     -- the longest: L 255, a pool of 249 bytes; of 250 there is none in an image of 255 bytes
-    ∷ finds 3 1 (hex "56 02 FF 01 F9" ++ replicate 249 0xC1 ++ hex "13") 0 (Found (bare 0x01 769 3 251 5 249 Plain))
+    ∷ finds 3 1 (hex "56 02 FF 01 F9" ++ replicate 249 0xC1 ++ hex "13") 0 (Ok (bare 0x01 769 3 251 5 249 Plain))
     ∷ alike 3 (hex "56 02 FF 01 FA" ++ replicate 250 0xC1) (refuses 5 3)
     ∷ alike 3 (hex "56 02 FF" ++ replicate 251 0x00) (refuses 5 2)
     -- ---- 10: at L - 1; bytes from L on are not looked at; after the frames, before 7 and 8
-    ∷ alike 3 (hex "56 02 04 6F 00 00") (Accepted 0)
+    ∷ alike 3 (hex "56 02 04 6F 00 00") (Ok 0)
     ∷ alike 3 (hex "56 02 04 00 6F 6F") (refuses 10 3)
-    ∷ alike 3 (hex "56 02 06 10 00 B7") (Accepted 1)
+    ∷ alike 3 (hex "56 02 06 10 00 B7") (Ok 1)
     ∷ alike 3 (hex "56 02 06 10 00 B6") (refuses 10 5)
     ∷ sweeps 256 (λ b. checking 3 1 (hex "56 02 04" ++ (b ∷ []))) 0 (0x6F ∷ [])
     ∷ alike 3 (hex "56 02 0B 61 00 00 64 00 00 00 CB") (refuses 10 10)
@@ -86,37 +84,37 @@ cases =
     ∷ alike 3 (hex "56 02 07 01 00 00 00") (refuses 9 5)
     ∷ alike 3 (hex "56 02 08 01 01 C1 F0 00") (refuses 9 6)
     ∷ alike 3 (hex "56 02 08 01 00 01 00 00") (refuses 9 5)
-    ∷ alike 3 (hex "56 02 0E 61 00 00 00 00 00 00 01 01 C1 CF") (Accepted 2)
-    ∷ alike 3 (hex "56 02 0D 61 00 00 00 00 00 00 10 01 A1") (Accepted 2)
-    ∷ alike 3 (hex "56 02 0B 11 00 10 01 02 01 C1 5E") (Accepted 3)
+    ∷ alike 3 (hex "56 02 0E 61 00 00 00 00 00 00 01 01 C1 CF") (Ok 2)
+    ∷ alike 3 (hex "56 02 0D 61 00 00 00 00 00 00 10 01 A1") (Ok 2)
+    ∷ alike 3 (hex "56 02 0B 11 00 10 01 02 01 C1 5E") (Ok 3)
     -- ---- 7: major 0 to 99 or 128 to 153, minor 0 to 99
-    ∷ alike 3 (hex "56 02 0B 61 00 00 63 63 00 00 D0") (Accepted 1)
-    ∷ alike 3 (hex "56 02 0B 61 FF FF 00 00 FF FF 75") (Accepted 1)
+    ∷ alike 3 (hex "56 02 0B 61 00 00 63 63 00 00 D0") (Ok 1)
+    ∷ alike 3 (hex "56 02 0B 61 FF FF 00 00 FF FF 75") (Ok 1)
     ∷ alike 3 (hex "56 02 0B 61 00 00 64 00 00 00 CA") (refuses 7 3)
     ∷ alike 3 (hex "56 02 0B 61 00 00 7F 00 00 00 27") (refuses 7 3)
-    ∷ alike 3 (hex "56 02 0B 61 00 00 80 00 00 00 F6") (Accepted 1)
-    ∷ alike 3 (hex "56 02 0B 62 00 00 99 00 00 00 51") (Accepted 1)
+    ∷ alike 3 (hex "56 02 0B 61 00 00 80 00 00 00 F6") (Ok 1)
+    ∷ alike 3 (hex "56 02 0B 62 00 00 99 00 00 00 51") (Ok 1)
     ∷ alike 3 (hex "56 02 0B 62 00 00 9A 00 00 00 6B") (refuses 7 3)
     ∷ alike 3 (hex "56 02 0B 61 00 00 00 64 00 00 A9") (refuses 7 3)
     ∷ alike 3 (hex "56 02 0B 62 00 00 99 64 00 00 3F") (refuses 7 3)
     ∷ alike 3 (hex "56 02 0D 10 00 62 00 00 9A 00 00 00 8D") (refuses 7 5)
     -- 80h and 81h, which edition 1 does not name: the same, and a batch number of at most 9999, low byte first
-    ∷ alike 3 (hex "56 02 0D 80 00 00 00 00 00 00 0F 27 9D") (Accepted 1)
+    ∷ alike 3 (hex "56 02 0D 80 00 00 00 00 00 00 0F 27 9D") (Ok 1)
     ∷ checks 3 2 (hex "56 02 0D 80 00 00 00 00 00 00 10 27 09") (refuses 7 3)
     ∷ checks 3 3 (hex "56 02 0D 80 00 00 00 00 00 00 10 27 09") (refuses 7 3)
-    ∷ checks 3 1 (hex "56 02 0D 80 00 00 00 00 00 00 10 27 09") (Accepted 1)
-    ∷ checks 3 2 (hex "56 02 0D 81 00 00 00 00 00 00 0F 27 E4") (Accepted 1)
+    ∷ checks 3 1 (hex "56 02 0D 80 00 00 00 00 00 00 10 27 09") (Ok 1)
+    ∷ checks 3 2 (hex "56 02 0D 81 00 00 00 00 00 00 0F 27 E4") (Ok 1)
     ∷ checks 3 2 (hex "56 02 0D 81 00 00 00 00 00 00 10 27 70") (refuses 7 3)
     ∷ checks 3 2 (hex "56 02 0D 81 00 00 00 00 00 00 00 28 0A") (refuses 7 3)
-    ∷ checks 3 2 (hex "56 02 0D 81 00 00 00 00 00 00 FF 26 F7") (Accepted 1)
+    ∷ checks 3 2 (hex "56 02 0D 81 00 00 00 00 00 00 FF 26 F7") (Ok 1)
     ∷ checks 3 2 (hex "56 02 0D 80 00 00 64 00 00 00 00 00 42") (refuses 7 3)
     ∷ checks 3 2 (hex "56 02 0D 81 00 00 00 64 00 00 00 00 F1") (refuses 7 3)
-    ∷ checks 3 1 (hex "56 02 0D 81 00 00 00 64 00 00 00 00 F1") (Accepted 1)
+    ∷ checks 3 1 (hex "56 02 0D 81 00 00 00 64 00 00 00 00 F1") (Ok 1)
     -- other tags have no rule: 63h, 82h and 7Fh, and any content of a pool
-    ∷ alike 3 (hex "56 02 14 63 00 00 64 64 00 00 82 00 00 64 64 00 00 FF FF 4C") (Accepted 2)
-    ∷ alike 3 (hex "56 02 13 60 64 64 64 64 64 64 7F 64 64 64 64 64 64 64 35") (Accepted 2)
-    ∷ alike 3 (hex "56 02 06 01 00 F5") (Accepted 1)
-    ∷ alike 3 (hex "56 02 09 01 03 00 7F FF 94") (Accepted 1)
+    ∷ alike 3 (hex "56 02 14 63 00 00 64 64 00 00 82 00 00 64 64 00 00 FF FF 4C") (Ok 2)
+    ∷ alike 3 (hex "56 02 13 60 64 64 64 64 64 64 7F 64 64 64 64 64 64 64 35") (Ok 2)
+    ∷ alike 3 (hex "56 02 06 01 00 F5") (Ok 1)
+    ∷ alike 3 (hex "56 02 09 01 03 00 7F FF 94") (Ok 1)
     -- the same by writes of one field, where 12 says that no rule is broken: each byte of an identity
     ∷ sweeps 160 (λ b. writing 3 1 0x61 (0 ∷ 0 ∷ b ∷ hex "00 00 00")) 12 (run 0 99 ++ run 128 153)
     ∷ sweeps 160 (λ b. writing 3 2 0x62 (0 ∷ 0 ∷ b ∷ hex "00 00 00")) 12 (run 0 99 ++ run 128 153)
@@ -143,11 +141,11 @@ cases =
     -- ---- 8: at the second; an unnamed tag may repeat
     ∷ alike 3 (hex "56 02 08 10 00 10 01 26") (refuses 8 5)
     ∷ alike 3 (hex "56 02 0A 10 00 11 00 10 01 44") (refuses 8 7)
-    ∷ alike 3 (hex "56 02 08 12 00 12 01 20") (Accepted 2)
-    ∷ checks 3 1 (hex "56 02 16 80 00 00 00 00 00 00 00 00 80 00 00 00 00 00 00 00 00 DB") (Accepted 2)
+    ∷ alike 3 (hex "56 02 08 12 00 12 01 20") (Ok 2)
+    ∷ checks 3 1 (hex "56 02 16 80 00 00 00 00 00 00 00 00 80 00 00 00 00 00 00 00 00 DB") (Ok 2)
     ∷ checks 3 2 (hex "56 02 16 80 00 00 00 00 00 00 00 00 80 00 00 00 00 00 00 00 00 DB") (refuses 8 12)
     ∷ checks 3 3 (hex "56 02 16 80 00 00 00 00 00 00 00 00 80 00 00 00 00 00 00 00 00 DB") (refuses 8 12)
-    ∷ checks 3 2 (hex "56 02 16 80 00 00 00 00 00 00 00 00 81 00 00 00 00 00 00 00 00 A2") (Accepted 2)
+    ∷ checks 3 2 (hex "56 02 16 80 00 00 00 00 00 00 00 00 81 00 00 00 00 00 00 00 00 A2") (Ok 2)
     -- 7 before 8
     ∷ alike 3 (hex "56 02 12 61 00 00 00 00 00 00 61 00 00 00 64 00 00 EE") (refuses 7 10)
     -- ---- the tags that each edition names: 13, and 14 for any other
@@ -170,51 +168,51 @@ cases =
     (bare 0x02 0 3 3 5 1 Plain ∷ bare 0x0F 0 6 3 8 1 Plain ∷ bare 0x12 0 9 2 10 1 Plain ∷ bare 0x5F 0 11 6 12 5 Plain ∷ bare 0x63 0 17 7 18 6 Plain ∷ [])
     ∷ lists 3 2 (hex "56 02 15 7F 09 09 09 09 09 09 09 82 09 09 09 09 09 09 09 09 86") (bare 0x7F 0 3 8 4 7 Plain ∷ bare 0x82 0 11 9 12 8 Plain ∷ [])
     -- the tests passed: each of the low four bits, each of the high four, all and none
-    ∷ finds 3 1 (hex "56 02 06 11 00 A2") 0 (Found (bare 0x11 785 3 2 4 1 (Tests 0x00 0)))
-    ∷ finds 3 1 (hex "56 02 06 11 01 A5") 0 (Found (bare 0x11 785 3 2 4 1 (Tests 0x01 1)))
-    ∷ finds 3 2 (hex "56 02 06 11 02 AC") 0 (Found (bare 0x11 785 3 2 4 1 (Tests 0x02 1)))
-    ∷ finds 3 1 (hex "56 02 06 11 04 BE") 0 (Found (bare 0x11 785 3 2 4 1 (Tests 0x04 1)))
-    ∷ finds 3 2 (hex "56 02 06 11 08 9A") 0 (Found (bare 0x11 785 3 2 4 1 (Tests 0x08 1)))
-    ∷ finds 3 1 (hex "56 02 06 11 10 D2") 0 (Found (bare 0x11 785 3 2 4 1 (Tests 0x10 0)))
-    ∷ finds 3 2 (hex "56 02 06 11 20 42") 0 (Found (bare 0x11 785 3 2 4 1 (Tests 0x20 0)))
-    ∷ finds 3 1 (hex "56 02 06 11 40 65") 0 (Found (bare 0x11 785 3 2 4 1 (Tests 0x40 0)))
-    ∷ finds 3 2 (hex "56 02 06 11 80 2B") 0 (Found (bare 0x11 785 3 2 4 1 (Tests 0x80 0)))
-    ∷ finds 3 1 (hex "56 02 06 11 F0 7C") 0 (Found (bare 0x11 785 3 2 4 1 (Tests 0xF0 0)))
-    ∷ finds 3 2 (hex "56 02 06 11 0F 8F") 0 (Found (bare 0x11 785 3 2 4 1 (Tests 0x0F 4)))
-    ∷ finds 3 1 (hex "56 02 06 11 FF 51") 0 (Found (bare 0x11 785 3 2 4 1 (Tests 0xFF 4)))
-    ∷ finds 3 2 (hex "56 02 06 11 05 B9") 0 (Found (bare 0x11 785 3 2 4 1 (Tests 0x05 2)))
-    ∷ finds 3 1 (hex "56 02 06 11 0B 93") 0 (Found (bare 0x11 785 3 2 4 1 (Tests 0x0B 3)))
+    ∷ finds 3 1 (hex "56 02 06 11 00 A2") 0 (Ok (bare 0x11 785 3 2 4 1 (Tests 0x00 0)))
+    ∷ finds 3 1 (hex "56 02 06 11 01 A5") 0 (Ok (bare 0x11 785 3 2 4 1 (Tests 0x01 1)))
+    ∷ finds 3 2 (hex "56 02 06 11 02 AC") 0 (Ok (bare 0x11 785 3 2 4 1 (Tests 0x02 1)))
+    ∷ finds 3 1 (hex "56 02 06 11 04 BE") 0 (Ok (bare 0x11 785 3 2 4 1 (Tests 0x04 1)))
+    ∷ finds 3 2 (hex "56 02 06 11 08 9A") 0 (Ok (bare 0x11 785 3 2 4 1 (Tests 0x08 1)))
+    ∷ finds 3 1 (hex "56 02 06 11 10 D2") 0 (Ok (bare 0x11 785 3 2 4 1 (Tests 0x10 0)))
+    ∷ finds 3 2 (hex "56 02 06 11 20 42") 0 (Ok (bare 0x11 785 3 2 4 1 (Tests 0x20 0)))
+    ∷ finds 3 1 (hex "56 02 06 11 40 65") 0 (Ok (bare 0x11 785 3 2 4 1 (Tests 0x40 0)))
+    ∷ finds 3 2 (hex "56 02 06 11 80 2B") 0 (Ok (bare 0x11 785 3 2 4 1 (Tests 0x80 0)))
+    ∷ finds 3 1 (hex "56 02 06 11 F0 7C") 0 (Ok (bare 0x11 785 3 2 4 1 (Tests 0xF0 0)))
+    ∷ finds 3 2 (hex "56 02 06 11 0F 8F") 0 (Ok (bare 0x11 785 3 2 4 1 (Tests 0x0F 4)))
+    ∷ finds 3 1 (hex "56 02 06 11 FF 51") 0 (Ok (bare 0x11 785 3 2 4 1 (Tests 0xFF 4)))
+    ∷ finds 3 2 (hex "56 02 06 11 05 B9") 0 (Ok (bare 0x11 785 3 2 4 1 (Tests 0x05 2)))
+    ∷ finds 3 1 (hex "56 02 06 11 0B 93") 0 (Ok (bare 0x11 785 3 2 4 1 (Tests 0x0B 3)))
     -- a string number, an address block with each byte in its place, and an identity with batch
-    ∷ finds 3 2 (hex "56 02 06 10 FF 44") 0 (Found (bare 0x10 784 3 2 4 1 (Numbered (string_number 255))))
-    ∷ finds 3 1 (hex "56 02 0B 60 01 23 45 67 89 AB A6") 0 (Found (bare 0x60 864 3 7 4 6 (Addresses 0x0123456789AB 1)))
-    ∷ finds 3 2 (hex "56 02 0D 81 0A 0B 0C 0D 0E 0F 11 12 40") 0 (Found (bare 0x81 897 3 9 4 8 (Batched (named 10 11 12 13 14 15) 4625)))
+    ∷ finds 3 2 (hex "56 02 06 10 FF 44") 0 (Ok (bare 0x10 784 3 2 4 1 (Numbered (string_number 255))))
+    ∷ finds 3 1 (hex "56 02 0B 60 01 23 45 67 89 AB A6") 0 (Ok (bare 0x60 864 3 7 4 6 (Addresses 0x0123456789AB 1)))
+    ∷ finds 3 2 (hex "56 02 0D 81 0A 0B 0C 0D 0E 0F 11 12 40") 0 (Ok (bare 0x81 897 3 9 4 8 (Batched (named 10 11 12 13 14 15) 4625)))
     -- entry, value and step: the first, in the middle, the last and past it
-    ∷ finds 3 1 tags 0 (Found (bare 0x10 784 3 2 4 1 (Numbered (string_number 2))))
-    ∷ finds 3 1 tags 5 (Found (bare 0x80 0 28 9 29 8 Plain))
-    ∷ finds 3 2 tags 5 (Found (bare 0x80 896 28 9 29 8 (Batched (named 0 1 2 3 4 5) 4660)))
-    ∷ finds 3 2 tags 8 (Found (bare 0x01 769 49 6 51 4 Plain))
+    ∷ finds 3 1 tags 0 (Ok (bare 0x10 784 3 2 4 1 (Numbered (string_number 2))))
+    ∷ finds 3 1 tags 5 (Ok (bare 0x80 0 28 9 29 8 Plain))
+    ∷ finds 3 2 tags 5 (Ok (bare 0x80 896 28 9 29 8 (Batched (named 0 1 2 3 4 5) 4660)))
+    ∷ finds 3 2 tags 8 (Ok (bare 0x01 769 49 6 51 4 Plain))
     ∷ finds 3 1 tags 9 (misses 13 0)
     ∷ finds 3 2 no_tags 0 (misses 13 0)
-    ∷ values 3 1 tags 0 (At (part_at 4 1)) (hex "02")
-    ∷ values 3 2 tags 5 (At (part_at 29 8)) (hex "00 01 02 03 04 05 34 12")
-    ∷ values 3 1 tags 8 (At (part_at 51 4)) (hex "41 C2 C3 44")
+    ∷ values 3 1 tags 0 (Ok (part_at 4 1)) (hex "02")
+    ∷ values 3 2 tags 5 (Ok (part_at 29 8)) (hex "00 01 02 03 04 05 34 12")
+    ∷ values 3 1 tags 8 (Ok (part_at 51 4)) (hex "41 C2 C3 44")
     ∷ values 3 1 tags 9 (nowhere 13 0) []
-    ∷ steps 3 1 0 tags (Found (bare 0x10 784 3 2 4 1 (Numbered (string_number 2)))) 1
-    ∷ steps 3 2 5 tags (Found (bare 0x80 896 28 9 29 8 (Batched (named 0 1 2 3 4 5) 4660))) 6
-    ∷ steps 3 1 8 tags (Found (bare 0x01 769 49 6 51 4 Plain)) 9
+    ∷ steps 3 1 0 tags (Ok (bare 0x10 784 3 2 4 1 (Numbered (string_number 2)))) 1
+    ∷ steps 3 2 5 tags (Ok (bare 0x80 896 28 9 29 8 (Batched (named 0 1 2 3 4 5) 4660))) 6
+    ∷ steps 3 1 8 tags (Ok (bare 0x01 769 49 6 51 4 Plain)) 9
     ∷ steps 3 2 9 tags (misses 13 0) 9
     -- ---- strings; the unfinished tail is none (15)
-    ∷ strings 3 1 tags 0 (At (part_at 51 2)) (hex "41 C2")
-    ∷ strings 3 2 tags 0 (At (part_at 51 2)) (hex "41 C2")
-    ∷ strings 3 1 tags 1 (At (part_at 53 1)) (hex "C3")
-    ∷ strings 3 2 tags 1 (At (part_at 53 1)) (hex "C3")
-    ∷ strings 3 3 tags 1 (At (part_at 53 1)) (hex "C3")
+    ∷ strings 3 1 tags 0 (Ok (part_at 51 2)) (hex "41 C2")
+    ∷ strings 3 2 tags 0 (Ok (part_at 51 2)) (hex "41 C2")
+    ∷ strings 3 1 tags 1 (Ok (part_at 53 1)) (hex "C3")
+    ∷ strings 3 2 tags 1 (Ok (part_at 53 1)) (hex "C3")
+    ∷ strings 3 3 tags 1 (Ok (part_at 53 1)) (hex "C3")
     ∷ strings 3 1 tags 2 (nowhere 15 0) []
     ∷ strings 3 2 tags 3 (nowhere 15 0) []
     -- a top bit on: 80h and FFh end a string, 7Fh and 00h do not
-    ∷ strings 3 1 (hex "56 02 0C 01 06 7F 00 80 FF 41 FF A9") 0 (At (part_at 5 3)) (hex "7F 00 80")
-    ∷ strings 3 1 (hex "56 02 0C 01 06 7F 00 80 FF 41 FF A9") 1 (At (part_at 8 1)) (hex "FF")
-    ∷ strings 3 2 (hex "56 02 0C 01 06 7F 00 80 FF 41 FF A9") 2 (At (part_at 9 2)) (hex "41 FF")
+    ∷ strings 3 1 (hex "56 02 0C 01 06 7F 00 80 FF 41 FF A9") 0 (Ok (part_at 5 3)) (hex "7F 00 80")
+    ∷ strings 3 1 (hex "56 02 0C 01 06 7F 00 80 FF 41 FF A9") 1 (Ok (part_at 8 1)) (hex "FF")
+    ∷ strings 3 2 (hex "56 02 0C 01 06 7F 00 80 FF 41 FF A9") 2 (Ok (part_at 9 2)) (hex "41 FF")
     ∷ strings 3 2 (hex "56 02 0C 01 06 7F 00 80 FF 41 FF A9") 3 (nowhere 15 0) []
     -- 15: no pool, an empty pool, only a tail; 02h is no pool
     ∷ strings 3 1 no_tags 0 (nowhere 15 0) []

@@ -1,17 +1,12 @@
 -- The calls that read: check, list, entry n, value of entry n, string, and the walk's step (01, "What the package reads and writes").
 -- Assumes nothing.
-use Rattle.std.specs.Prelude.{ℕ, zero, suc, ◌+◌, ◌/◌, ◌%◌, List, [], ◌∷◌, ◌++◌, Bool, true, false, length, drop, ltb, leb, eqb}
+use Rattle.std.specs.Prelude.{ℕ, zero, suc, ◌+◌, ◌/◌, ◌%◌, List, [], ◌∷◌, ◌++◌, Bool, true, false, length, drop, ltb, leb, eqb, Ok, Err}
 use Rattle.layout.specs.declared.Part.{Part}
 use Rattle.layout.specs.declared.Reading.{Reading}
 use Rattle.layout.specs.declared.Reading.TheVariants.{Plain, Text, Number, Addresses, Numbered, Tests, Identified, Batched, Dated, Timed}
 use Rattle.layout.specs.declared.Entry.{Entry}
 use Rattle.layout.specs.declared.Refusal.{Refusal}
-use Rattle.layout.specs.declared.Checked.{Checked}
-use Rattle.layout.specs.declared.Checked.TheVariants.{Accepted, Refused}
-use Rattle.layout.specs.declared.Lookup.{Lookup}
-use Rattle.layout.specs.declared.Lookup.TheVariants.{Found, Missing}
-use Rattle.layout.specs.declared.Located.{Located}
-use Rattle.layout.specs.declared.Located.TheVariants.{At, Nowhere}
+use Rattle.layout.specs.Answers.{Checked, Lookup, Located}
 use Rattle.layout.specs.Bytes.{if, part, place, part_at, refusal}
 use Rattle.layout.specs.Shape.{Shape}
 use Rattle.layout.specs.Editions.{shape, names, kind}
@@ -58,8 +53,8 @@ entries_in f e img = entries_by (read_image f e img) e
 -- ---- check
 
 abbrev pub checked_by : Read → Checked
-checked_by (accepted f start rs) = Accepted (length rs)
-checked_by (refused r) = Refused r
+checked_by (accepted f start rs) = Ok (length rs)
+checked_by (refused r) = Err r
 
 unfoldable pub check_image : ℕ → ℕ → List ℕ → Checked
 check_image f e img = checked_by (read_image f e img)
@@ -75,12 +70,12 @@ pub record Listed : Type 0 where
 abbrev pub fill : List Entry → List Entry → Listed
 fill es records =
     if (leb (length es) (length records))
-    (λ _. record { answer = Accepted (length es); records = es ++ drop (length es) records })
-    (λ _. record { answer = Refused (refusal 12 0); records = records })
+    (λ _. record { answer = Ok (length es); records = es ++ drop (length es) records })
+    (λ _. record { answer = Err (refusal 12 0); records = records })
 
 abbrev pub listed_by : Read → ℕ → List Entry → Listed
 listed_by (accepted f start rs) e records = fill (entries_of (shape f) e start rs) records
-listed_by (refused r) e records = record { answer = Refused r; records = records }
+listed_by (refused r) e records = record { answer = Err r; records = records }
 
 unfoldable pub list_entries : ℕ → ℕ → List ℕ → List Entry → Listed
 list_entries f e img records = listed_by (read_image f e img) e records
@@ -89,13 +84,13 @@ list_entries f e img records = listed_by (read_image f e img) e records
 
 -- entries count from 0
 unfoldable pub nth : List Entry → ℕ → Lookup
-nth [] n = Missing (refusal 13 0)
-nth (x ∷ xs) zero = Found x
+nth [] n = Err (refusal 13 0)
+nth (x ∷ xs) zero = Ok x
 nth (x ∷ xs) (suc n) = nth xs n
 
 abbrev pub found_by : Read → ℕ → ℕ → Lookup
 found_by (accepted f start rs) e n = nth (entries_of (shape f) e start rs) n
-found_by (refused r) e n = Missing r
+found_by (refused r) e n = Err r
 
 unfoldable pub entry_at : ℕ → ℕ → List ℕ → ℕ → Lookup
 entry_at f e img n = found_by (read_image f e img) e n
@@ -104,19 +99,19 @@ entry_at f e img n = found_by (read_image f e img) e n
 
 -- the bytes of the part that a call gives; a refusal gives an empty part
 abbrev pub bytes_at : List ℕ → Located → List ℕ
-bytes_at img (At x) = part x.place.0 x.len img
-bytes_at img (Nowhere r) = []
+bytes_at img (Ok x) = part x.place.0 x.len img
+bytes_at img (Err r) = []
 
 -- number and place of the same call: 0 and 0 where nothing is refused
 abbrev pub verdict : Located → Refusal
-verdict (At x) = refusal 0 0
-verdict (Nowhere r) = r
+verdict (Ok x) = refusal 0 0
+verdict (Err r) = r
 
 -- ---- value of entry n
 
 abbrev pub value_of : Lookup → Located
-value_of (Found x) = At x.value
-value_of (Missing r) = Nowhere r
+value_of (Ok x) = Ok x.value
+value_of (Err r) = Err r
 
 unfoldable pub value_at : ℕ → ℕ → List ℕ → ℕ → Located
 value_at f e img n = value_of (entry_at f e img n)
@@ -125,8 +120,8 @@ value_at f e img n = value_of (entry_at f e img n)
 
 -- the entry number of the walk that a step hands back: moved on by one, or as it was where the step is refused
 abbrev pub moved : ℕ → Lookup → ℕ
-moved n (Found x) = n + 1
-moved n (Missing r) = n
+moved n (Ok x) = n + 1
+moved n (Err r) = n
 
 -- the answer of a step, and the entry number of the walk that is handed back
 pub record Step : Type 0 where
@@ -141,13 +136,13 @@ step_from f e n img = record { answer = entry_at f e img n; next = moved n (entr
 
 -- 15: no pool, or no such string
 abbrev pub no_string : Located
-no_string = Nowhere (refusal 15 0)
+no_string = Err (refusal 15 0)
 
 -- the string of this number in bytes of a pool, where a string begins at p and n of its bytes were passed.
 -- A string ends with the first byte whose top bit is on; an unfinished tail is no string
 unfoldable pub string_in : List ℕ → ℕ → ℕ → ℕ → Located
 string_in [] p n number = no_string
-string_in (b ∷ bs) p n zero = if (ltb b 128) (λ _. string_in bs p (n + 1) zero) (λ _. At (part_at p (n + 1)))
+string_in (b ∷ bs) p n zero = if (ltb b 128) (λ _. string_in bs p (n + 1) zero) (λ _. Ok (part_at p (n + 1)))
 string_in (b ∷ bs) p n (suc number) = if (ltb b 128) (λ _. string_in bs p (n + 1) (suc number)) (λ _. string_in bs (p + n + 1) 0 number)
 
 -- the same in the pool, which is the entry of code 01h; the first entry stands at p
@@ -160,11 +155,11 @@ pool_string p (r ∷ rs) number =
 
 abbrev pub string_by : Read → ℕ → Located
 string_by (accepted f start rs) number = pool_string start rs number
-string_by (refused r) number = Nowhere r
+string_by (refused r) number = Err r
 
 -- 16 for any format but 3, then as any image, then 15
 unfoldable pub string_at : ℕ → ℕ → List ℕ → ℕ → Located
-string_at f e img number = if (eqb f 3) (λ _. string_by (read_image f e img) number) (λ _. Nowhere (refusal 16 0))
+string_at f e img number = if (eqb f 3) (λ _. string_by (read_image f e img) number) (λ _. Err (refusal 16 0))
 
 -- ---- what an answer says
 
@@ -198,13 +193,13 @@ abbrev pub told : ℕ → Part → List Entry → Told
 told n x es = record { number = 0; place = 0; count = n; part = x; given = es }
 
 abbrev pub told_checked : Checked → Told
-told_checked (Accepted n) = told n (part_at 0 0) []
-told_checked (Refused r) = told_refusal r
+told_checked (Ok n) = told n (part_at 0 0) []
+told_checked (Err r) = told_refusal r
 
 abbrev pub told_lookup : Lookup → Told
-told_lookup (Found x) = told 1 (part_at 0 0) (x ∷ [])
-told_lookup (Missing r) = told_refusal r
+told_lookup (Ok x) = told 1 (part_at 0 0) (x ∷ [])
+told_lookup (Err r) = told_refusal r
 
 abbrev pub told_located : Located → Told
-told_located (At x) = told x.len x []
-told_located (Nowhere r) = told_refusal r
+told_located (Ok x) = told x.len x []
+told_located (Err r) = told_refusal r

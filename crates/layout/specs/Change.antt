@@ -1,8 +1,7 @@
 -- A change of an image into a second buffer: what an edit, an addition and a removal share (01, "Writing, editing, walking"; 02, "Add and remove fields").
 -- Assumes nothing.
-use Rattle.std.specs.Prelude.{ℕ, zero, suc, ◌+◌, List, [], ◌∷◌, ◌++◌, ◌||◌, length, ltb}
-use Rattle.layout.specs.declared.Chosen.{Chosen}
-use Rattle.layout.specs.declared.Chosen.TheVariants.{Known, Unknown}
+use Rattle.std.specs.Prelude.{ℕ, zero, suc, ◌+◌, List, [], ◌∷◌, ◌++◌, ◌||◌, length, ltb, Ok, Err}
+use Rattle.layout.specs.Answers.{Chosen}
 use Rattle.layout.specs.declared.Refusal.{Refusal}
 use Rattle.layout.specs.Bytes.{if, refusal}
 use Rattle.layout.specs.Shape.{Shape}
@@ -64,9 +63,9 @@ change_read (accepted f start rs) x e out = change_allowed (x.asks (shape f) e s
 change_read (refused r) x e out = refuse r out
 
 abbrev pub change_chosen : Chosen → Change → ℕ → List ℕ → List ℕ → Outcome
-change_chosen (Known f) x e img out =
+change_chosen (Ok f) x e img out =
     if (ltb limit (length img) || ltb limit (length out)) (λ _. refuse (refusal 2 0) out) (λ _. change_read (read_as f e img) x e out)
-change_chosen (Unknown n) x e img out = refuse (refusal n 0) out
+change_chosen (Err n) x e img out = refuse (refusal n 0) out
 
 -- 16, 1, 2 (image or output), the image's own refusals, what the change asks, 12
 unfoldable pub change_image : Change → ℕ → ℕ → List ℕ → List ℕ → Outcome

@@ -1,10 +1,9 @@
 -- Formats, editions, names and kinds (01, "Editions and kinds"; 02, "ONIE images and edition 3", "Entries remember their whole frame").
 -- Assumes nothing.
-use Rattle.std.specs.Prelude.{ℕ, ◌+◌, ◌*◌, List, [], ◌∷◌, Bool, false, leb, eqb}
+use Rattle.std.specs.Prelude.{ℕ, ◌+◌, ◌*◌, List, [], ◌∷◌, Bool, false, leb, eqb, Ok, Err}
 use Rattle.layout.specs.declared.Format.{Format}
 use Rattle.layout.specs.declared.Format.TheVariants.{Fboss, Vpd, Tiny, Onie}
-use Rattle.layout.specs.declared.Chosen.{Chosen}
-use Rattle.layout.specs.declared.Chosen.TheVariants.{Known, Unknown}
+use Rattle.layout.specs.Answers.{Chosen}
 use Rattle.layout.specs.Bytes.{if, between}
 use Rattle.layout.specs.Shape.{Shape, Naming}
 use Rattle.layout.specs.Fboss.{fboss}
@@ -26,8 +25,8 @@ known_edition e = between 1 4 e
 abbrev pub with_edition : ℕ → Format → Chosen
 with_edition e f =
     if (known_edition e)
-    (λ _. if (leb (shape f).edition e) (λ _. Known f) (λ _. Unknown 16))
-    (λ _. Unknown 1)
+    (λ _. if (leb (shape f).edition e) (λ _. Ok f) (λ _. Err 16))
+    (λ _. Err 1)
 
 -- the format and edition of a call: 16 for a number that is no format's, then 1, then 16 for a format that the edition does not have
 unfoldable pub chosen : ℕ → ℕ → Chosen
@@ -36,7 +35,7 @@ chosen f e =
     (λ _. if (eqb f 2) (λ _. with_edition e Vpd)
     (λ _. if (eqb f 3) (λ _. with_edition e Tiny)
     (λ _. if (eqb f 4) (λ _. with_edition e Onie)
-    (λ _. Unknown 16))))
+    (λ _. Err 16))))
 
 -- the first edition that names a code, or none
 pub data Since : Type 0 where

@@ -1,9 +1,8 @@
 -- FBOSS v5 (01, "FBOSS v5 (000)"; 02, "Real calendar days").
 -- Assumes nothing.
-use Rattle.std.specs.Prelude.{ℕ, ◌/◌, ◌%◌, List, [], ◌∷◌, Bool, true, ◌&&◌, length, get_or, ltb, eqb}
+use Rattle.std.specs.Prelude.{ℕ, ◌/◌, ◌%◌, List, [], ◌∷◌, Bool, true, ◌&&◌, length, get_or, ltb, eqb, Ok, Err}
 use Rattle.crc.specs.Crc.{check16_of}
-use Rattle.layout.specs.declared.Opened.{Opened}
-use Rattle.layout.specs.declared.Opened.TheVariants.{Room, Closed}
+use Rattle.layout.specs.Answers.{Opened}
 use Rattle.layout.specs.declared.Reading.{Reading}
 use Rattle.layout.specs.declared.Reading.TheVariants.{Text, Number, Addresses, Dated}
 use Rattle.layout.specs.declared.Date.{Date}
@@ -14,12 +13,12 @@ use Rattle.layout.specs.Shape.{Shape, naming, fine, Coded, coded}
 -- FB FB 05 FF; the entries have room to the image's end
 unfoldable pub fboss_opened : List ℕ → Opened
 fboss_opened s =
-    if (ltb (length s) 4) (λ _. Closed (refusal 3 0))
+    if (ltb (length s) 4) (λ _. Err (refusal 3 0))
     (λ _. if (eqb (get_or s 0 0) 0xFB && eqb (get_or s 1 0) 0xFB)
     (λ _. if (eqb (get_or s 2 0) 0x05)
-    (λ _. if (eqb (get_or s 3 0) 0xFF) (λ _. Room 4 (length s)) (λ _. Closed (refusal 3 0)))
-    (λ _. Closed (refusal 4 0)))
-    (λ _. Closed (refusal 3 0)))
+    (λ _. if (eqb (get_or s 3 0) 0xFF) (λ _. Ok (4, (length s))) (λ _. Err (refusal 3 0)))
+    (λ _. Err (refusal 4 0)))
+    (λ _. Err (refusal 3 0)))
 
 -- a byte of text
 abbrev pub printable : ℕ → Bool

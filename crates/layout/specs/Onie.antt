@@ -1,9 +1,8 @@
 -- ONIE (02, "ONIE images and edition 3", "Real calendar days"; 003).
 -- Assumes nothing.
-use Rattle.std.specs.Prelude.{ℕ, ◌+◌, ◌*◌, ◌/◌, ◌%◌, List, [], ◌∷◌, ◌++◌, Bool, true, false, not, ◌&&◌, length, get_or, ltb, leb, eqb}
+use Rattle.std.specs.Prelude.{ℕ, ◌+◌, ◌*◌, ◌/◌, ◌%◌, List, [], ◌∷◌, ◌++◌, Bool, true, false, not, ◌&&◌, length, get_or, ltb, leb, eqb, Ok, Err}
 use Rattle.crc.specs.Crc.{check32_of}
-use Rattle.layout.specs.declared.Opened.{Opened}
-use Rattle.layout.specs.declared.Opened.TheVariants.{Room, Closed}
+use Rattle.layout.specs.Answers.{Opened}
 use Rattle.layout.specs.declared.Reading.{Reading}
 use Rattle.layout.specs.declared.Reading.TheVariants.{Plain, Text, Number, Addresses, Timed}
 use Rattle.layout.specs.declared.Date.{Date}
@@ -29,14 +28,14 @@ most_declared = 2048
 -- to say a length in one way only
 unfoldable pub onie_opened : List ℕ → Opened
 onie_opened s =
-    if (ltb (length s) 11) (λ _. Closed (refusal 3 0))
+    if (ltb (length s) 11) (λ _. Err (refusal 3 0))
     (λ _. if (same_bytes (part 0 8 s) tlv_info)
     (λ _. if (eqb (get_or s 8 0) 0x01)
     (λ _. if (leb (declared s) most_declared && leb (11 + declared s) (length s) && ltb (get_or s 10 0) 256)
-    (λ _. Room 11 (11 + declared s))
-    (λ _. Closed (refusal 5 9)))
-    (λ _. Closed (refusal 4 0)))
-    (λ _. Closed (refusal 3 0)))
+    (λ _. Ok (11, (11 + declared s)))
+    (λ _. Err (refusal 5 9)))
+    (λ _. Err (refusal 4 0)))
+    (λ _. Err (refusal 3 0)))
 
 -- the check ends the room: after the entries it has six bytes, FE 04 and the check; else the declared length is wrong
 unfoldable pub onie_filled : ℕ → ℕ → Judged

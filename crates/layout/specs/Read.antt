@@ -1,12 +1,9 @@
 -- Reading an image: the refusals of the image itself, in 01's order ("Numbers given back", "Order").
 -- Assumes nothing.
-use Rattle.std.specs.Prelude.{ℕ, zero, suc, ◌+◌, ◌-◌, List, [], ◌∷◌, ◌++◌, Bool, true, false, ◌&&◌, length, take, ltb, eqb}
+use Rattle.std.specs.Prelude.{ℕ, zero, suc, ◌+◌, ◌-◌, List, [], ◌∷◌, ◌++◌, Bool, true, false, ◌&&◌, length, take, ltb, eqb, Ok, Err}
 use Rattle.layout.specs.declared.Format.{Format}
-use Rattle.layout.specs.declared.Chosen.{Chosen}
-use Rattle.layout.specs.declared.Chosen.TheVariants.{Known, Unknown}
+use Rattle.layout.specs.Answers.{Chosen, Opened}
 use Rattle.layout.specs.declared.Refusal.{Refusal}
-use Rattle.layout.specs.declared.Opened.{Opened}
-use Rattle.layout.specs.declared.Opened.TheVariants.{Room, Closed}
 use Rattle.layout.specs.Bytes.{if, one_of, same_bytes, part, refusal}
 use Rattle.layout.specs.Shape.{Shape, Label, Judged, fine, faulty}
 use Rattle.layout.specs.Editions.{shape, chosen, names}
@@ -89,16 +86,16 @@ read_walked (stop n p) f e img start end = bad n p
 
 -- after the header: the walk over the room
 abbrev pub read_opened : Opened → Format → ℕ → List ℕ → Read
-read_opened (Room start end) f e img = read_walked (walk (shape f) false start (part start (end - start) img)) f e img start end
-read_opened (Closed r) f e img = refused r
+read_opened (Ok (start, end)) f e img = read_walked (walk (shape f) false start (part start (end - start) img)) f e img start end
+read_opened (Err r) f e img = refused r
 
 -- an image of a known format, with an edition that has it
 unfoldable pub read_as : Format → ℕ → List ℕ → Read
 read_as f e img = read_opened ((shape f).opened img) f e img
 
 abbrev pub read_chosen : Chosen → ℕ → List ℕ → Read
-read_chosen (Known f) e img = if (ltb limit (length img)) (λ _. bad 2 0) (λ _. read_as f e img)
-read_chosen (Unknown n) e img = bad n 0
+read_chosen (Ok f) e img = if (ltb limit (length img)) (λ _. bad 2 0) (λ _. read_as f e img)
+read_chosen (Err n) e img = bad n 0
 
 -- any image, of any format number and edition: 16, 1, 2, and the image's own refusals
 unfoldable pub read_image : ℕ → ℕ → List ℕ → Read

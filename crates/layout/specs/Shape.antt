@@ -1,15 +1,9 @@
 -- What a format is, and the frame of one entry, for any format.
 -- Assumes nothing.
-use Rattle.std.specs.Prelude.{ℕ, ◌+◌, List, [], ◌∷◌, Bool, true, false, length, get_or, ltb, leb, eqb}
+use Rattle.std.specs.Prelude.{ℕ, ◌+◌, List, [], ◌∷◌, Bool, true, false, length, get_or, ltb, leb, eqb, Ok, Err, Some, None}
 use Rattle.layout.specs.declared.Head.{Head}
-use Rattle.layout.specs.declared.Headed.{Headed}
-use Rattle.layout.specs.declared.Headed.TheVariants.{Opens, Ends, Wrong}
-use Rattle.layout.specs.declared.Length.{Length}
-use Rattle.layout.specs.declared.Length.TheVariants.{Reads, Fails}
+use Rattle.layout.specs.Answers.{Headed, Length, Next, Opened}
 use Rattle.layout.specs.declared.Frame.{Frame}
-use Rattle.layout.specs.declared.Next.{Next}
-use Rattle.layout.specs.declared.Next.TheVariants.{Framed, Ended, Broken}
-use Rattle.layout.specs.declared.Opened.{Opened}
 use Rattle.layout.specs.declared.Reading.{Reading}
 use Rattle.layout.specs.Bytes.{if}
 
@@ -81,13 +75,13 @@ abbrev pub frame_of : Head → ℕ → ℕ → Frame
 frame_of h v j = record { code = h.code; key = h.key; klen = h.klen; at = h.at; val = j; vlen = v; size = j + v }
 
 abbrev pub on_length : Length → Head → List ℕ → Next
-on_length (Reads v j) h s = if (leb (j + v) (length s)) (λ _. Framed (frame_of h v j)) (λ _. Broken 5)
-on_length (Fails n) h s = Broken n
+on_length (Ok (v, j)) h s = if (leb (j + v) (length s)) (λ _. Ok (Some (frame_of h v j))) (λ _. Err 5)
+on_length (Err n) h s = Err n
 
 abbrev pub on_head : Headed → Shape → List ℕ → Next
-on_head (Opens h) S s = on_length (S.vlen h s) h s
-on_head Ends S s = Ended
-on_head (Wrong n) S s = Broken n
+on_head (Ok (Some h)) S s = on_length (S.vlen h s) h s
+on_head (Ok None) S s = Ok None
+on_head (Err n) S s = Err n
 
 -- the next entry's frame at the front of s, in 01's order: what opens it, its length bytes, and only then a value past the room (01, "Order")
 unfoldable pub next : Shape → Bool → List ℕ → Next
@@ -95,7 +89,7 @@ next S b s = on_head (S.head b s) S s
 
 -- a length of one byte, at the place where the head says that it begins
 abbrev pub byte_length : Head → List ℕ → Length
-byte_length h s = if (ltb h.at (length s)) (λ _. Reads (get_or s h.at 0) (h.at + 1)) (λ _. Fails 5)
+byte_length h s = if (ltb h.at (length s)) (λ _. Ok ((get_or s h.at 0), (h.at + 1))) (λ _. Err 5)
 
 -- the head of an entry without a key, which is a code byte alone
 abbrev pub bare_head : ℕ → Head
@@ -107,14 +101,14 @@ bare_head c = record { code = c; key = 1; klen = 0; at = 1 }
 unfoldable pub coded_head : (end size : ℕ) → List ℕ → Headed
 coded_head end size s =
     if (ltb 0 (length s))
-    (λ _. if (eqb (get_or s 0 0) 0) (λ _. Wrong 6)
-    (λ _. if (eqb (get_or s 0 0) 255) (λ _. Wrong 6)
+    (λ _. if (eqb (get_or s 0 0) 0) (λ _. Err 6)
+    (λ _. if (eqb (get_or s 0 0) 255) (λ _. Err 6)
     (λ _. if (eqb (get_or s 0 0) end)
     (λ _. if (ltb 1 (length s))
-    (λ _. if (eqb (get_or s 1 0) size) (λ _. if (leb (2 + size) (length s)) (λ _. Ends) (λ _. Wrong 5)) (λ _. Wrong 6))
-    (λ _. Wrong 5))
-    (λ _. Opens (bare_head (get_or s 0 0))))))
-    (λ _. Wrong 5)
+    (λ _. if (eqb (get_or s 1 0) size) (λ _. if (leb (2 + size) (length s)) (λ _. Ok None) (λ _. Err 5)) (λ _. Err 6))
+    (λ _. Err 5))
+    (λ _. Ok (Some (bare_head (get_or s 0 0)))))))
+    (λ _. Err 5)
 
 -- what differs from one such format to another; its members are those of a shape
 pub record Coded : Type 0 where

@@ -1,14 +1,9 @@
 -- Tiny EEPROM version 2 (01, "Tiny version 2 (004)").
 -- Assumes nothing.
-use Rattle.std.specs.Prelude.{ℕ, ◌+◌, ◌*◌, ◌-◌, ◌/◌, ◌%◌, List, [], ◌∷◌, Bool, true, false, ◌&&◌, ◌||◌, length, get_or, ltb, leb, eqb}
+use Rattle.std.specs.Prelude.{ℕ, ◌+◌, ◌*◌, ◌-◌, ◌/◌, ◌%◌, List, [], ◌∷◌, Bool, true, false, ◌&&◌, ◌||◌, length, get_or, ltb, leb, eqb, Ok, Err, Some, None}
 use Rattle.crc.specs.Crc.{check8_of}
 use Rattle.layout.specs.declared.Head.{Head}
-use Rattle.layout.specs.declared.Headed.{Headed}
-use Rattle.layout.specs.declared.Headed.TheVariants.{Opens, Ends, Wrong}
-use Rattle.layout.specs.declared.Length.{Length}
-use Rattle.layout.specs.declared.Length.TheVariants.{Reads}
-use Rattle.layout.specs.declared.Opened.{Opened}
-use Rattle.layout.specs.declared.Opened.TheVariants.{Room, Closed}
+use Rattle.layout.specs.Answers.{Headed, Length, Opened}
 use Rattle.layout.specs.declared.Identity.{Identity}
 use Rattle.layout.specs.declared.Reading.{Reading}
 use Rattle.layout.specs.declared.Reading.TheVariants.{Plain, Addresses, Numbered, Tests, Identified, Batched}
@@ -18,24 +13,24 @@ use Rattle.layout.specs.Shape.{Shape, naming, fine, byte_length, bare_head}
 -- 56h, 02h, the total length L; the entries fill bytes 3 to L-2
 unfoldable pub tiny_opened : List ℕ → Opened
 tiny_opened s =
-    if (ltb (length s) 3) (λ _. Closed (refusal 3 0))
+    if (ltb (length s) 3) (λ _. Err (refusal 3 0))
     (λ _. if (eqb (get_or s 0 0) 0x56)
     (λ _. if (eqb (get_or s 1 0) 0x02)
-    (λ _. if (leb 4 (get_or s 2 0) && leb (get_or s 2 0) (length s)) (λ _. Room 3 (get_or s 2 0 - 1)) (λ _. Closed (refusal 5 2)))
-    (λ _. Closed (refusal 4 0)))
-    (λ _. Closed (refusal 3 0)))
+    (λ _. if (leb 4 (get_or s 2 0) && leb (get_or s 2 0) (length s)) (λ _. Ok (3, (get_or s 2 0 - 1))) (λ _. Err (refusal 5 2)))
+    (λ _. Err (refusal 4 0)))
+    (λ _. Err (refusal 3 0)))
 
 -- the entries end with their room; none comes after the pool; tag 00h is reserved
 unfoldable pub tiny_head : Bool → List ℕ → Headed
 tiny_head b s =
     if (ltb 0 (length s))
-    (λ _. if b (λ _. Wrong 9)
-    (λ _. if (eqb (get_or s 0 0) 0x00) (λ _. Wrong 6) (λ _. Opens (bare_head (get_or s 0 0)))))
-    (λ _. Ends)
+    (λ _. if b (λ _. Err 9)
+    (λ _. if (eqb (get_or s 0 0) 0x00) (λ _. Err 6) (λ _. Ok (Some (bare_head (get_or s 0 0))))))
+    (λ _. Ok None)
 
 -- a tag's high four bits are the length of the value; where they are 0 the next byte is
 unfoldable pub tiny_length : Head → List ℕ → Length
-tiny_length h s = if (ltb h.code 16) (λ _. byte_length h s) (λ _. Reads (h.code / 16) h.at)
+tiny_length h s = if (ltb h.code 16) (λ _. byte_length h s) (λ _. Ok ((h.code / 16), h.at))
 
 -- may a value of the length n follow the tag c
 abbrev pub tiny_takes : ℕ → ℕ → Bool

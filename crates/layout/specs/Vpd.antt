@@ -1,39 +1,35 @@
 -- VPD 2.0 (01, "VPD 2.0 (002)").
 -- Assumes nothing.
-use Rattle.std.specs.Prelude.{ℕ, zero, suc, ◌+◌, ◌*◌, ◌-◌, ◌/◌, ◌%◌, List, [], ◌∷◌, ◌++◌, Bool, true, false, ◌&&◌, ◌||◌, length, get_or, ltb, leb, eqb}
-use Rattle.layout.specs.declared.Headed.{Headed}
-use Rattle.layout.specs.declared.Headed.TheVariants.{Opens, Ends, Wrong}
-use Rattle.layout.specs.declared.Length.{Length}
-use Rattle.layout.specs.declared.Length.TheVariants.{Reads, Fails}
-use Rattle.layout.specs.declared.Opened.TheVariants.{Room}
+use Rattle.std.specs.Prelude.{ℕ, zero, suc, ◌+◌, ◌*◌, ◌-◌, ◌/◌, ◌%◌, List, [], ◌∷◌, ◌++◌, Bool, true, false, ◌&&◌, ◌||◌, length, get_or, ltb, leb, eqb, Ok, Err, Some, None}
+use Rattle.layout.specs.Answers.{Headed, Length}
 use Rattle.layout.specs.declared.Reading.TheVariants.{Plain}
 use Rattle.layout.specs.Bytes.{if, between, all, same_bytes}
 use Rattle.layout.specs.Shape.{Shape, Label, naming, fine}
 
 -- the length that begins at j, where n was read so far and k more length bytes are allowed
 unfoldable pub groups : ℕ → ℕ → ℕ → List ℕ → Length
-groups zero n j s = Fails 6
+groups zero n j s = Err 6
 groups (suc k) n j s =
     if (ltb j (length s))
-    (λ _. if (ltb (get_or s j 0) 128) (λ _. Reads (n * 128 + get_or s j 0) (j + 1)) (λ _. groups k (n * 128 + (get_or s j 0 - 128)) (j + 1) s))
-    (λ _. Fails 5)
+    (λ _. if (ltb (get_or s j 0) 128) (λ _. Ok ((n * 128 + get_or s j 0), (j + 1))) (λ _. groups k (n * 128 + (get_or s j 0 - 128)) (j + 1) s))
+    (λ _. Err 5)
 
 -- the head of an entry whose key has the length n and stands at j
 abbrev pub keyed_head : Length → List ℕ → Headed
-keyed_head (Reads n j) s =
-    if (leb (j + n) (length s)) (λ _. Opens (record { code = get_or s 0 0; key = j; klen = n; at = j + n })) (λ _. Wrong 5)
-keyed_head (Fails n) s = Wrong n
+keyed_head (Ok (n, j)) s =
+    if (leb (j + n) (length s)) (λ _. Ok (Some (record { code = get_or s 0 0; key = j; klen = n; at = j + n }))) (λ _. Err 5)
+keyed_head (Err n) s = Err n
 
 -- type 00h or FFh ends the image; types 02h to FDh can't be skipped
 unfoldable pub vpd_head : List ℕ → Headed
 vpd_head s =
     if (ltb 0 (length s))
-    (λ _. if (eqb (get_or s 0 0) 0x00) (λ _. Ends)
-    (λ _. if (eqb (get_or s 0 0) 0xFF) (λ _. Ends)
+    (λ _. if (eqb (get_or s 0 0) 0x00) (λ _. Ok None)
+    (λ _. if (eqb (get_or s 0 0) 0xFF) (λ _. Ok None)
     (λ _. if (eqb (get_or s 0 0) 0x01) (λ _. keyed_head (groups 4 0 1 s) s)
     (λ _. if (eqb (get_or s 0 0) 0xFE) (λ _. keyed_head (groups 4 0 1 s) s)
-    (λ _. Wrong 6)))))
-    (λ _. Wrong 5)
+    (λ _. Err 6)))))
+    (λ _. Err 5)
 
 -- the shortest length bytes that say n, for every n below 2 to the 28th; what is longer fits no image
 unfoldable pub shortest : ℕ → List ℕ
@@ -69,7 +65,7 @@ vpd =
       number = 2;
       edition = 1;
       keyed = true;
-      opened = λ s. Room 0 (length s);
+      opened = λ s. Ok (0, (length s));
       head = λ b s. vpd_head s;
       vlen = λ h s. groups 4 0 h.at s;
       last = λ c. false;

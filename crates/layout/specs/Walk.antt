@@ -1,9 +1,8 @@
 -- The walk over frames (01, "Order"), for any format.
 -- Assumes nothing.
-use Rattle.std.specs.Prelude.{ℕ, zero, suc, ◌+◌, List, [], ◌∷◌, ◌++◌, map, Bool, length, take, drop}
+use Rattle.std.specs.Prelude.{ℕ, zero, suc, ◌+◌, List, [], ◌∷◌, ◌++◌, map, Bool, length, take, drop, Ok, Err, Some, None}
 use Rattle.layout.specs.declared.Frame.{Frame}
-use Rattle.layout.specs.declared.Next.{Next}
-use Rattle.layout.specs.declared.Next.TheVariants.{Framed, Ended, Broken}
+use Rattle.layout.specs.Answers.{Next}
 use Rattle.layout.specs.Bytes.{part}
 use Rattle.layout.specs.Shape.{Shape, Label, next}
 
@@ -48,9 +47,9 @@ more r (stop n p) = stop n p
 
 -- one turn at place p, where s is the room that is left; `on` goes on after a frame
 abbrev pub turn : Next → ℕ → List ℕ → (Frame → Walked) → Walked
-turn (Framed f) p s on = more (record { bytes = take f.size s; frame = f }) (on f)
-turn Ended p s on = done [] p
-turn (Broken n) p s on = stop n p
+turn (Ok (Some f)) p s on = more (record { bytes = take f.size s; frame = f }) (on f)
+turn (Ok None) p s on = done [] p
+turn (Err n) p s on = stop n p
 
 -- the entries of s, whose first byte stands at p, in at most d turns
 unfoldable pub walks : ℕ → Shape → Bool → ℕ → List ℕ → Walked

@@ -1,14 +1,11 @@
 -- Writing an image from a field list (01, "Writing, editing, walking").
 -- Assumes nothing.
-use Rattle.std.specs.Prelude.{ℕ, zero, suc, ◌+◌, ◌*◌, ◌-◌, List, [], ◌∷◌, ◌++◌, Bool, true, false, ◌&&◌, length, get_or, drop, replicate, ltb, leb}
+use Rattle.std.specs.Prelude.{ℕ, zero, suc, ◌+◌, ◌*◌, ◌-◌, List, [], ◌∷◌, ◌++◌, Bool, true, false, ◌&&◌, length, get_or, drop, replicate, ltb, leb, Ok, Err}
 use Rattle.layout.specs.declared.Part.{Part}
 use Rattle.layout.specs.declared.Format.{Format}
-use Rattle.layout.specs.declared.Chosen.{Chosen}
-use Rattle.layout.specs.declared.Chosen.TheVariants.{Known, Unknown}
+use Rattle.layout.specs.Answers.{Chosen, Made}
 use Rattle.layout.specs.declared.Field.{Field}
 use Rattle.layout.specs.declared.Refusal.{Refusal}
-use Rattle.layout.specs.declared.Made.{Made}
-use Rattle.layout.specs.declared.Made.TheVariants.{Wrote, Unwritten}
 use Rattle.layout.specs.Bytes.{if, part, part_at, refusal}
 use Rattle.layout.specs.Shape.{Shape, Label, Judged, fine, faulty}
 use Rattle.layout.specs.Editions.{shape, chosen, names}
@@ -119,7 +116,7 @@ pub record Outcome : Type 0 where
   pub memory : List ℕ
 
 abbrev pub refuse : Refusal → List ℕ → Outcome
-refuse r out = record { answer = Unwritten r; memory = out }
+refuse r out = record { answer = Err r; memory = out }
 
 -- FFh in every output byte after the image's end
 abbrev pub padded : List ℕ → ℕ → List ℕ
@@ -129,14 +126,14 @@ padded image n = image ++ replicate (n - length image) 0xFF
 unfoldable pub put : Shape → List ℕ → List ℕ → Outcome
 put S image out =
     if (leb (length image) S.most && leb (length image) (length out))
-    (λ _. record { answer = Wrote (length image); memory = padded image (length out) })
+    (λ _. record { answer = Ok (length image); memory = padded image (length out) })
     (λ _. refuse (refusal 12 0) out)
 
 -- the bytes go to the output's front, and those past them stay; 12 where they do not fit
 abbrev pub put_bytes : List ℕ → List ℕ → Outcome
 put_bytes bytes out =
     if (leb (length bytes) (length out))
-    (λ _. record { answer = Wrote (length bytes); memory = bytes ++ drop (length bytes) out })
+    (λ _. record { answer = Ok (length bytes); memory = bytes ++ drop (length bytes) out })
     (λ _. refuse (refusal 12 0) out)
 
 -- ---- write
@@ -151,13 +148,13 @@ unfoldable pub write_as : Format → ℕ → List Field → List ℕ → List �
 write_as f e xs values out = write_judged (judge_fields (shape f) e values false [] xs 0) (shape f) (contents_of (shape f) values xs) out
 
 abbrev pub write_chosen : Chosen → ℕ → List Field → List ℕ → List ℕ → Outcome
-write_chosen (Known f) e xs values out = if (ltb limit (length out)) (λ _. refuse (refusal 2 0) out) (λ _. write_as f e xs values out)
-write_chosen (Unknown n) e xs values out = refuse (refusal n 0) out
+write_chosen (Ok f) e xs values out = if (ltb limit (length out)) (λ _. refuse (refusal 2 0) out) (λ _. write_as f e xs values out)
+write_chosen (Err n) e xs values out = refuse (refusal n 0) out
 
 -- 16, 1, 2; per field 14, 13, 9, 7, 8; then 11, 12
 unfoldable pub write_image : ℕ → ℕ → List Field → List ℕ → List ℕ → Outcome
 write_image f e xs values out = write_chosen (chosen f e) e xs values out
 
 abbrev pub told_made : Made → Told
-told_made (Wrote n) = told n (part_at 0 0) []
-told_made (Unwritten r) = told_refusal r
+told_made (Ok n) = told n (part_at 0 0) []
+told_made (Err r) = told_refusal r

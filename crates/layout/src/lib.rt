@@ -1,35 +1,41 @@
-// The types that the definitions of specs/ and the code of the other crates share. There is no function here.
+// The types that the definitions of specs/ and the code of the other crates share, and how a place, a part and a refusal are made.
 #![tactic(auto)]
 
+ghost use Rattle.std.specs.Prelude.{◌≡◌};
+ghost use Rattle.layout.specs.Bytes.{part_at, refusal};
+
 // 01's term "place": it counts bytes of the image. In a field it counts bytes of the lent values, in a vendor block bytes of the payload, and in a write's refusal it may be a field's number in the list.
-#[derive(Clone, Copy)]
+#[derive(Clone, Copy, PartialEq, Eq)]
 pub struct Place(pub usize);
 
 // 01's term "string number": it counts the strings of a Tiny pool, from 0.
-#[derive(Clone, Copy)]
+#[derive(Clone, Copy, PartialEq, Eq)]
 pub struct StringNumber(pub usize);
 
 // 01's term "part": some of the bytes that were lent, by the place of the first and by length.
-#[derive(Clone, Copy)]
+#[derive(Clone, Copy, PartialEq, Eq)]
 pub struct Part {
     pub place: Place,
     pub len: usize,
 }
 
+impl Part {
+    // The part of so many bytes from a place on.
+    pub fn at(place: usize, len: usize) -> Self
+        ensures { result ≡ part_at place len }
+    {
+        let place = Place(place);
+        Part { place, len }
+    }
+}
+
 // The layouts; document 01 numbers them 1, 2 and 3, and document 02 adds 4.
-#[derive(Clone, Copy)]
+#[derive(Clone, Copy, PartialEq, Eq)]
 pub enum Format {
     Fboss,
     Vpd,
     Tiny,
     Onie,
-}
-
-// What a call's format and edition come to: a layout, or the number of the refusal.
-#[derive(Clone, Copy)]
-pub enum Chosen {
-    Known(Format),
-    Unknown(u32),
 }
 
 // 01's term "identity": the string numbers of serial and part, the revision, and two free bytes.
@@ -105,45 +111,29 @@ pub struct Field {
 }
 
 // A number of 01's table or of 02's, and the place that goes with it.
-#[derive(Clone, Copy)]
+#[derive(Clone, Copy, PartialEq, Eq)]
 pub struct Refusal {
     pub number: u32,
     pub place: Place,
 }
 
-// The answer of a check and of a list: how many entries there are.
-#[derive(Clone, Copy)]
-pub enum Checked {
-    Accepted(usize),
-    Refused(Refusal),
+impl Refusal {
+    // The refusal of this number at a place.
+    pub fn at(number: u32, place: usize) -> Self
+        ensures { result ≡ refusal number place }
+    {
+        let place = Place(place);
+        Refusal { number, place }
+    }
 }
 
-// The answer for one entry.
-#[derive(Clone, Copy)]
-pub enum Lookup {
-    Found(Entry),
-    Missing(Refusal),
-}
+// A number alone is the refusal at 0.
+impl From<u32> for Refusal {
+    ghost from_gives = { λ number r. r ≡ refusal number 0 };
 
-// The answer that gives a part of the lent image.
-#[derive(Clone, Copy)]
-pub enum Located {
-    At(Part),
-    Nowhere(Refusal),
-}
-
-// The answer of a write and of an edit: the length of the image, its end included. Of a vendor write: the number of bytes put out.
-#[derive(Clone, Copy)]
-pub enum Made {
-    Wrote(usize),
-    Unwritten(Refusal),
-}
-
-// What an image's header says: its entries start at the first place, and their room ends before the second.
-#[derive(Clone, Copy)]
-pub enum Opened {
-    Room(usize, usize),
-    Closed(Refusal),
+    fn from(number: u32) -> Refusal {
+        Refusal::at(number, 0)
+    }
 }
 
 // What stands before the length of a value: the code, the key's place and length, and the place where the value's length begins.
@@ -156,22 +146,6 @@ pub struct Head {
     pub at: usize,
 }
 
-#[derive(Clone, Copy)]
-pub enum Headed {
-    Opens(Head),
-    // the entries end here
-    Ends,
-    // the number of the refusal
-    Wrong(u32),
-}
-
-// A length that was read, with the place after it, from the entry's first byte; or the number of the refusal.
-#[derive(Clone, Copy)]
-pub enum Length {
-    Reads(usize, usize),
-    Fails(u32),
-}
-
 // One entry's frame: its head, the place and length of its value, and the length of the whole. Its places count from its first byte.
 #[derive(Clone, Copy)]
 pub struct Frame {
@@ -182,12 +156,4 @@ pub struct Frame {
     pub val: usize,
     pub vlen: usize,
     pub size: usize,
-}
-
-// What stands at the front of the room that is left.
-#[derive(Clone, Copy)]
-pub enum Next {
-    Framed(Frame),
-    Ended,
-    Broken(u32),
 }

@@ -1,2 +1,2 @@
-pub mod Replaced
-pub mod Stepping
+pub mod Filling
+pub mod Giving

@@ -2,7 +2,7 @@
 -- Assumes nothing.
 use Prim.Native.Nat.{ℕ, suc, ◌+◌, ◌≤◌, ◌<◌, min}
 use mathlib.Core.Path.{◌≡◌, refl, ap}
-use mathlib.Core.List.{List, []}
+use mathlib.Core.List.{List, [], ◌∷◌}
 use mathlib.Core.Bool.{Bool, true, false}
 use native.Mathlib.Omega.{arith}
 use borrow.Author.Tests.{le-leb, lt-leb, leb-true, leb-false}
@@ -43,6 +43,14 @@ fits-alike m n room le same = go (leb n room) refl
 pub length-keyed : (c : ℕ) (key : List ℕ) → length (vpd.opening c key) ≡ suc (length (shortest (length key)) + length key)
 unfolding vpd
 length-keyed c key = ap suc (length-append (shortest (length key)) key)
+
+-- What opens an entry of any other format.
+pub not-keyed : (f : Format) (c : ℕ) (key : List ℕ) → (f ≡ Vpd → ⊥) → (shape f).opening c key ≡ c ∷ []
+unfolding fboss tiny onie
+not-keyed Fboss c key other = refl
+not-keyed Vpd c key other = absurd (other refl)
+not-keyed Tiny c key other = refl
+not-keyed Onie c key other = refl
 
 -- Headers have one length, whatever the entries, and so have checks.
 pub length-header : (f : Format) (n : ℕ) → length ((shape f).header n) ≡ length ((shape f).header 0)

@@ -8,9 +8,9 @@ use native.Mathlib.Omega.{arith}
 use borrow.Author.Tests.{lt-leb, leb-false}
 use lib.ListN.{length}
 use lib.Dec.{leb}
+use Rattle.std.specs.Prelude.{Ok}
 use Rattle.layout.specs.declared.Format.{Format}
 use Rattle.layout.specs.declared.Format.TheVariants.{Fboss, Vpd, Tiny, Onie}
-use Rattle.layout.specs.declared.Made.TheVariants.{Wrote}
 use Rattle.layout.specs.Bytes.{part, refusal}
 use Rattle.layout.specs.Fboss.{fboss}
 use Rattle.layout.specs.Vpd.{vpd}
@@ -60,17 +60,17 @@ module _ (f : Format) (es out : List ℕ) where
   -- d is an output of the same length that has the entries where the header ends
   module _ (d : List ℕ) (l : length d ≡ length out) (stands : part (length ((shape f).header 0)) (length es) d ≡ es) where
     pub put_whole : fits_in (shape f) (length es) (length out) ≡ true →
-        put (shape f) (image_of (shape f) es) out ≡ record { answer = Wrote (sealed_length (shape f) (length es)); memory = finished (shape f) d (length es) }
+        put (shape f) (image_of (shape f) es) out ≡ record { answer = Ok (sealed_length (shape f) (length es)); memory = finished (shape f) d (length es) }
     unfolding put fits_in
     put_whole e =
         let image : List ℕ = image_of (shape f) es in
         let test : (leb (length image) (shape f).most && leb (length image) (length out)) ≡ true = rw (length-image f es) e in
         let made : finished (shape f) d (length es) ≡ padded image (length out) =
         sym (finished-is (shape f) d (length es) (rw l e)) ∙ rw (length-header f (length es), stands, l) in
-        rw test (ap₂ (λ (a : ℕ) (m : List ℕ). record { answer = Wrote a; memory = m }) (length-image f es) (sym made))
+        rw test (ap₂ (λ (a : ℕ) (m : List ℕ). record { answer = Ok a; memory = m }) (length-image f es) (sym made))
 
     pub put-fits : fits_in (shape f) (capped (length es)) (length out) ≡ true →
-        put (shape f) (image_of (shape f) es) out ≡ record { answer = Wrote (capped (sealed_length (shape f) (capped (length es)))); memory = finished (shape f) d (capped (length es)) }
+        put (shape f) (image_of (shape f) es) out ≡ record { answer = Ok (capped (sealed_length (shape f) (capped (length es)))); memory = finished (shape f) d (capped (length es)) }
     put-fits e =
         let n : ℕ = length es in
         let whole : capped n ≡ n = fits_whole f n (length out) e in

@@ -1,5 +1,6 @@
 // Writing into a lent output: what opens an entry, a value with its length, and the header, end and check of an image.
-#![tactic(auto)]
+// The goals are tried with the formats and their bytes of a length opened.
+#![tactic(auto, unfolding(layout::specs::Fboss::fboss, layout::specs::Vpd::vpd, layout::specs::Vpd::shortest, layout::specs::Tiny::tiny, layout::specs::Onie::onie, layout::specs::Onie::onie_check))]
 
 ghost use Rattle.std.specs.Prelude.{◌≡◌, ℕ, ◌+◌, ◌-◌, ◌≤◌, ◌<◌, [], ◌∷◌, ◌++◌, true, length, take, replicate};
 ghost use Rattle.layout.specs.Bytes.{part};
@@ -21,13 +22,7 @@ use layout::Format;
 pub fn add_capped(a: usize, b: usize) -> usize
     ensures { result ≡ capped (a + b) }
 {
-    if 65537 < a {
-        return 65537;
-    }
-    if 65537 - a < b {
-        return 65537;
-    }
-    a + b
+    a.saturating_add(b).min(65537)
 }
 
 // The rule on the length of a value that is written.
@@ -35,10 +30,9 @@ pub fn length_rule(format: Format, code: u32, n: usize) -> bool
     ensures { result ≡ (shape format).length_rule code n }
 {
     match format {
-        Format::Fboss => n < 256,
+        Format::Fboss | Format::Onie => n < 256,
         Format::Vpd => true,
         Format::Tiny => tiny::tiny_takes(code, n),
-        Format::Onie => n < 256,
     }
 }
 
@@ -46,16 +40,12 @@ pub fn length_rule(format: Format, code: u32, n: usize) -> bool
 fn shortest_length(n: usize) -> usize
     ensures { (result ≡ length (shortest n)) × (result ≤ 4) }
 {
-    if n < 128 {
-        return 1;
+    match n {
+        ..128 => 1,
+        ..16384 => 2,
+        ..2097152 => 3,
+        _ => 4,
     }
-    if n < 16384 {
-        return 2;
-    }
-    if n < 2097152 {
-        return 3;
-    }
-    4
 }
 
 // How many bytes say the length n of a value.
@@ -63,15 +53,9 @@ fn lens_length(format: Format, code: u32, n: usize) -> usize
     ensures { result ≡ length ((shape format).lens code n) }
 {
     match format {
-        Format::Fboss => 1,
+        Format::Fboss | Format::Onie => 1,
         Format::Vpd => shortest_length(n),
-        Format::Tiny => {
-            if code < 16 {
-                return 1;
-            }
-            0
-        }
-        Format::Onie => 1,
+        Format::Tiny => usize::from(code < 16),
     }
 }
 
@@ -80,10 +64,8 @@ pub fn opening_length(format: Format, code: u32, key: &[u8]) -> usize
     ensures { result ≡ capped (length ((shape format).opening code key.now)) }
 {
     match format {
-        Format::Fboss => 1,
         Format::Vpd => add_capped(1 + shortest_length(key.len()), key.len()),
-        Format::Tiny => 1,
-        Format::Onie => 1,
+        Format::Fboss | Format::Tiny | Format::Onie => 1,
     }
 }
 
@@ -111,8 +93,7 @@ fn most(format: Format) -> usize
     ensures { (result ≡ (shape format).most) × (result ≤ limit) }
 {
     match format {
-        Format::Fboss => 65536,
-        Format::Vpd => 65536,
+        Format::Fboss | Format::Vpd => 65536,
         Format::Tiny => 255,
         Format::Onie => 2059,
     }
@@ -123,10 +104,7 @@ pub fn fits(format: Format, n: usize, room: usize) -> bool
     ensures { result ≡ fits_in (shape format) n room }
 {
     let m = image_length(format, n);
-    if most(format) < m {
-        return false;
-    }
-    m <= room
+    m <= most(format) && m <= room
 }
 
 // Where the entries of an image begin that is written.
@@ -145,10 +123,7 @@ pub fn header_length(format: Format) -> usize
 fn has_room(room: usize, at: usize, n: usize) -> bool
     ensures { result ≡ has_room room at n }
 {
-    if 65536 < room {
-        return false;
-    }
-    add_capped(at, n) <= room
+    room <= 65536 && add_capped(at, n) <= room
 }
 
 // ---- bytes
@@ -157,16 +132,8 @@ fn has_room(room: usize, at: usize, n: usize) -> bool
 pub fn copy_at(out: &mut [u8], at: usize, s: &[u8])
     ensures { out.new ≡ copied out.old at s.now }
 {
-    if out.len() < at {
-        return;
-    }
-    if out.len() - at < s.len() {
-        return;
-    }
-    let mut i = 0;
-    while i < s.len() {
-        out[at + i] = s[i];
-        i += 1;
+    if at <= out.len() && s.len() <= out.len() - at {
+        out[at..at + s.len()].copy_from_slice(s);
     }
 }
 
@@ -175,8 +142,7 @@ fn put_one(out: &mut [u8], at: usize, n: usize)
     requires { n < 256 }
     ensures { out.new ≡ copied out.old at (n ∷ []) }
 {
-    let one = [n as u8];
-    copy_at(out, at, &one);
+    copy_at(out, at, &[n as u8]);
 }
 
 // The shortest bytes that say n in VPD, where they fit: seven bits in each, and the high bit on but in the last.
@@ -184,21 +150,15 @@ fn put_shortest(out: &mut [u8], at: usize, n: usize)
     requires { n ≤ limit }
     ensures { out.new ≡ copied out.old at (shortest n) }
 {
+    let last = (n % 0x80) as u8;
     if n < 0x80 {
-        put_one(out, at, n);
-        return;
+        copy_at(out, at, &[last]);
+    } else if n < 0x4000 {
+        copy_at(out, at, &[(0x80 + n / 0x80) as u8, last]);
+    } else {
+        let first = (0x80 + n / 0x4000) as u8;
+        copy_at(out, at, &[first, (0x80 + n / 0x80 % 0x80) as u8, last]);
     }
-    if n < 0x4000 {
-        let two = [(0x80 + n / 0x80) as u8, (n % 0x80) as u8];
-        copy_at(out, at, &two);
-        return;
-    }
-    let three = [
-        (0x80 + n / 0x4000) as u8,
-        (0x80 + n / 0x80 % 0x80) as u8,
-        (n % 0x80) as u8,
-    ];
-    copy_at(out, at, &three);
 }
 
 // What opens a new entry of a code that is a byte, where there is room for it.
@@ -207,16 +167,10 @@ fn write_opening(out: &mut [u8], at: usize, format: Format, code: u32, key: &[u8
     requires out_len_bound { (length out.old ≤ limit) × (at + length ((shape format).opening code key.now) ≤ length out.old) }
     ensures { out.new ≡ copied out.old at ((shape format).opening code key.now) }
 {
-    let first = [code as u8];
-    copy_at(out, at, &first);
-    match format {
-        Format::Fboss => {}
-        Format::Vpd => {
-            put_shortest(out, at + 1, key.len());
-            copy_at(out, at + 1 + shortest_length(key.len()), key);
-        }
-        Format::Tiny => {}
-        Format::Onie => {}
+    copy_at(out, at, &[code as u8]);
+    if let Format::Vpd = format {
+        put_shortest(out, at + 1, key.len());
+        copy_at(out, at + 1 + shortest_length(key.len()), key);
     }
 }
 
@@ -224,10 +178,8 @@ fn write_opening(out: &mut [u8], at: usize, format: Format, code: u32, key: &[u8
 pub fn put_opening(out: &mut [u8], at: usize, format: Format, code: u32, key: &[u8])
     ensures { out.new ≡ opening_placed (shape format) out.old at code key.now }
 {
-    if code < 256 {
-        if has_room(out.len(), at, opening_length(format, code, key)) {
-            write_opening(out, at, format, code, key);
-        }
+    if code < 256 && has_room(out.len(), at, opening_length(format, code, key)) {
+        write_opening(out, at, format, code, key);
     }
 }
 
@@ -237,14 +189,13 @@ fn put_lens(out: &mut [u8], at: usize, format: Format, code: u32, n: usize)
     ensures { out.new ≡ copied out.old at ((shape format).lens code n) }
 {
     match format {
-        Format::Fboss => put_one(out, at, n),
+        Format::Fboss | Format::Onie => put_one(out, at, n),
         Format::Vpd => put_shortest(out, at, n),
         Format::Tiny => {
             if code < 16 {
                 put_one(out, at, n);
             }
         }
-        Format::Onie => put_one(out, at, n),
     }
 }
 
@@ -262,10 +213,9 @@ fn write_value(out: &mut [u8], at: usize, format: Format, code: u32, v: &[u8])
 pub fn put_value(out: &mut [u8], at: usize, format: Format, code: u32, v: &[u8])
     ensures { out.new ≡ value_placed (shape format) out.old at code v.now }
 {
-    if length_rule(format, code, v.len()) {
-        if has_room(out.len(), at, value_length(format, code, v.len())) {
-            write_value(out, at, format, code, v);
-        }
+    let n = v.len();
+    if length_rule(format, code, n) && has_room(out.len(), at, value_length(format, code, n)) {
+        write_value(out, at, format, code, v);
     }
 }
 
@@ -276,12 +226,7 @@ fn fill_rest(out: &mut [u8], at: usize)
     requires { at ≤ length out.old }
     ensures { out.new ≡ copied out.old at (replicate (length out.old - at) 0xFF) }
 {
-    let n = out.len() - at;
-    let mut j = 0;
-    while j < n {
-        out[at + j] = 0xFF;
-        j += 1;
-    }
+    out[at..].fill(0xFF);
 }
 
 // `end` from `at` on, and FFh after it.
@@ -298,12 +243,10 @@ fn finish_fboss(out: &mut [u8], n: usize)
     requires { n + 8 ≤ length out.old }
     ensures { out.new ≡ padded (image_of fboss (part 4 n out.old)) (length out.old) }
 {
-    let header = [0xFB, 0xFB, 0x05, 0xFF];
-    copy_at(out, 0, &header);
+    copy_at(out, 0, &[0xFB, 0xFB, 0x05, 0xFF]);
     let at = n + 4;
-    let c = crc::check16(&out[..at]);
-    let end = [0xFA, 0x02, (c / 256) as u8, (c % 256) as u8];
-    put_end(out, at, &end);
+    let [high, low] = crc::check16(&out[..at]).to_be_bytes();
+    put_end(out, at, &[0xFA, 0x02, high, low]);
 }
 
 // The entries, and 00.
@@ -311,8 +254,7 @@ fn finish_vpd(out: &mut [u8], n: usize)
     requires { n + 1 ≤ length out.old }
     ensures { out.new ≡ padded (image_of vpd (part 0 n out.old)) (length out.old) }
 {
-    let end = [0x00];
-    put_end(out, n, &end);
+    put_end(out, n, &[0x00]);
 }
 
 // 56 02, the length of the image, the entries, and the check over all before it.
@@ -320,11 +262,10 @@ fn finish_tiny(out: &mut [u8], n: usize)
     requires { (n + 4 ≤ length out.old) × (n + 4 ≤ 255) }
     ensures { out.new ≡ padded (image_of tiny (part 3 n out.old)) (length out.old) }
 {
-    let header = [0x56, 0x02, (n + 4) as u8];
-    copy_at(out, 0, &header);
+    copy_at(out, 0, &[0x56, 0x02, (n + 4) as u8]);
     let at = n + 3;
-    let end = [crc::check8(0, &out[..at])];
-    put_end(out, at, &end);
+    let check = crc::check8(0, &out[..at]);
+    put_end(out, at, &[check]);
 }
 
 // TlvInfo and a zero, 01, the length of all after the header, the entries, FE 04, and the check over all before it, high byte first.
@@ -332,16 +273,13 @@ fn finish_onie(out: &mut [u8], n: usize)
     requires { (n + 17 ≤ length out.old) × (n + 17 ≤ 2059) }
     ensures { out.new ≡ padded (image_of onie (part 11 n out.old)) (length out.old) }
 {
-    let magic = onie::TLV_INFO;
-    copy_at(out, 0, &magic);
+    copy_at(out, 0, &onie::TLV_INFO);
     let total = n + 6;
-    let version_and_length = [0x01, (total / 256) as u8, (total % 256) as u8];
-    copy_at(out, 8, &version_and_length);
+    let [high, low] = (total as u16).to_be_bytes();
+    copy_at(out, 8, &[0x01, high, low]);
     let at = n + 11;
-    let c = crc::check32_closed(&out[..at], 0xFE, 0x04);
-    let check = parts::four_bytes(c);
-    let end = [0xFE, 0x04, check[0], check[1], check[2], check[3]];
-    put_end(out, at, &end);
+    let [a, b, c, d] = crc::check32_closed(&out[..at], 0xFE, 0x04).to_be_bytes();
+    put_end(out, at, &[0xFE, 0x04, a, b, c, d]);
 }
 
 // The n bytes of entries that stand where the header ends become an image: header, end, check, and FFh after it.

@@ -1,33 +1,36 @@
--- Loops over bytes: for each its invariant, one turn, and how it ends.
+-- Bytes that are tested, compared and taken in: what a chain and a comparison give, and of a loop its invariant, one turn, and how it ends.
 -- Assumes nothing.
-use Prim.Native.Nat.{ℕ, suc, ◌+◌, ◌*◌, ◌-◌, ◌^◌, ◌≤◌, ◌<◌}
+use Prim.Native.Nat.{ℕ, suc, ◌+◌, ◌*◌, ◌^◌, ◌≤◌, ◌<◌}
 use mathlib.Core.Path.{◌≡◌, refl, sym, ap, ◌∙◌}
 use mathlib.Core.List.{List, [], ◌∷◌}
-use mathlib.Core.Bool.{Bool, true, false}
+use mathlib.Core.Bool.{Bool, true, false, ◌&&◌}
+use lib.Pointwise.{pointwise}
+use Rattle.std.specs.List.{list_all}
 use native.Mathlib.Nat.{pow-suc, pow-le-pow_right}
 use native.Mathlib.Numerals.{add-one}
 use native.Mathlib.Omega.{arith}
 use lib.ListN.{length, get_or, drop, drop_of_length-le}
-use lib.Seq.{drop-cons, take-nil}
+use lib.Seq.{drop-cons}
 use lib.Dec.{eqb}
-use Rattle.layout.specs.Bytes.{if, all, same_bytes, part, high_first}
+use Rattle.layout.specs.Bytes.{if, all, same_bytes, high_first}
 
--- A loop that tests each byte: whether all pass is whether all from i on do.
-abbrev pub Passing : (ℕ → Bool) → List ℕ → ℕ → Type 0
-Passing t v i = (i ≤ length v) × (all t v ≡ all t (drop i v))
+-- A chain that tests each byte answers as the definition does.
+pub all_listed : (t : ℕ → Bool) (v : List ℕ) → list_all t v ≡ all t v
+unfolding all
+all_listed t [] = refl
+all_listed t (b ∷ bs) = ap (λ (r : Bool). t b && r) (all_listed t bs)
 
-module _ (t : ℕ → Bool) (v : List ℕ) (i : ℕ) (inv : Passing t v i) where
-  pub passes : i < length v → t (get_or v i 0) ≡ true → Passing t v (i + 1)
-  unfolding all
-  passes lt e = (omega arith, inv.1 ∙ rw (drop-cons v i 0, e, add-one))
-
-  pub fails : i < length v → t (get_or v i 0) ≡ false → false ≡ all t v
-  unfolding all
-  fails lt e = sym (inv.1 ∙ rw (drop-cons v i 0, e))
-
-  pub passed : length v ≤ i → true ≡ all t v
-  unfolding all
-  passed le = sym (inv.1 ∙ rw (drop_of_length-le v le))
+-- So does a comparison of two slices.
+pub same_listed : (x y : List ℕ) → pointwise eqb x y ≡ same_bytes x y
+unfolding same_bytes
+same_listed [] [] = refl
+same_listed [] (b ∷ y) = refl
+same_listed (a ∷ x) [] = refl
+same_listed (a ∷ x) (b ∷ y) = go (eqb a b) (same_listed x y)
+  where
+    go : (t : Bool) {p q : Bool} → p ≡ q → (t && p) ≡ if t (λ _. q) (λ _. false)
+    go true e = e
+    go false e = refl
 
 -- A choice between two sides that are false is false.
 or_else : (t : Bool) {a : Bool} → false ≡ a → false ≡ if t (λ _. a) (λ _. false)
@@ -76,34 +79,25 @@ module _ {t : ℕ → ℕ → Bool} {z : List ℕ → List ℕ → Bool} (P : Pa
         let l : length y ≤ i = omega arith in
         P.none ∙ sym (inv.2 ∙ rw (drop_of_length-le x le, drop_of_length-le y l))
 
--- A loop that takes the bytes from a to before end into a number: with those from i on it is the whole number, and it is below 256 for each byte taken.
-abbrev pub Taking : List ℕ → (a end r i : ℕ) → Type 0
-Taking s a end r i =
-    (a ≤ i) × (i ≤ end) × (r < 256 ^ (i - a)) × (high_first 0 (part a (end - a) s) ≡ high_first r (part i (end - i) s))
+-- A loop that takes bytes into a number, k of them so far: with those that are left it is the whole number, and it is below 256 for each byte taken.
+abbrev pub Taking : List ℕ → (r k : ℕ) → Type 0
+Taking bytes r k = (r < 256 ^ k) × (high_first 0 bytes ≡ high_first r (drop k bytes))
 
--- None is left to take past those asked for, and past the list.
-pub none-asked : (s : List ℕ) (end i : ℕ) → end ≤ i → part i (end - i) s ≡ []
-unfolding part
-none-asked s end i le = let e : end - i ≡ 0 = omega arith in rw e
-
-pub none-there : (s : List ℕ) (end i : ℕ) → length s ≤ i → part i (end - i) s ≡ []
-unfolding part
-none-there s end i le = rw (drop_of_length-le s le, take-nil)
-
-module _ (s : List ℕ) (a end r i : ℕ) (inv : Taking s a end r i) where
+module _ (bytes : List ℕ) (r k : ℕ) (inv : Taking bytes r k) where
   -- Fewer than six are taken.
-  pub small : end ≤ a + 6 → i < end → r < 256 ^ 5
-  small le lt = omega (arith, pow-le-pow_right {n = 256} (omega arith) {i = i - a} {j = 5} (omega arith))
+  pub small : length bytes ≤ 6 → k < length bytes → r < 256 ^ 5
+  small six lt = omega (arith, inv.0, pow-le-pow_right {n = 256} (omega arith) {i = k} {j = 5} (omega arith))
 
-  pub takes : i < end → i < length s → get_or s i 0 < 256 → Taking s a end (r * 256 + get_or s i 0) (i + 1)
-  unfolding part high_first
-  takes lt l b =
-      let e : end - i ≡ suc (end - (i + 1)) = omega arith in
-      let f : i + 1 - a ≡ suc (i - a) = omega arith in
-      (omega arith, omega arith, rw (f, pow-suc) (omega arith), inv.3 ∙ rw (e, drop-cons s i 0, add-one))
+  pub takes : (b : ℕ) → (k < length bytes) × (b ≡ get_or bytes k b) → b < 256 → Taking bytes (r * 256 + b) (k + 1)
+  unfolding high_first
+  takes b next small =
+      let lt : k < length bytes = next.0 in
+      let rest : drop k bytes ≡ b ∷ drop (k + 1) bytes = drop-cons bytes k b lt ∙ rw (← next.1, add-one) in
+      (rw (add-one, pow-suc) (omega arith), inv.1 ∙ rw rest)
 
   -- None is left.
-  pub taken : part i (end - i) s ≡ [] → (r ≡ high_first 0 (part a (end - a) s)) × (r < 256 ^ (end - a))
+  pub taken : (n : ℕ) → length bytes ≤ n → k ≡ length bytes → (r ≡ high_first 0 bytes) × (r < 256 ^ n)
   unfolding high_first
-  taken none =
-      (sym (inv.3 ∙ rw none), omega (arith, pow-le-pow_right {n = 256} (omega arith) {i = i - a} {j = end - a} (omega arith)))
+  taken n le whole =
+      let none : drop k bytes ≡ [] = drop_of_length-le bytes (omega arith) in
+      (sym (inv.1 ∙ rw none), omega (arith, inv.0, pow-le-pow_right {n = 256} (omega arith) {i = k} {j = n} (omega arith)))

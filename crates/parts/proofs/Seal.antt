@@ -1,18 +1,39 @@
 -- The stored check of an image.
 -- Assumes nothing.
-use Prim.Native.Nat.{ℕ, suc, ◌+◌, ◌≤◌, ◌<◌}
-use mathlib.Core.Path.{◌≡◌, ◌∙◌}
+use Prim.Native.Nat.{ℕ, suc, ◌+◌, ◌-◌, ◌≤◌, ◌<◌}
+use mathlib.Core.Path.{◌≡◌, refl, sym, ap₂, ◌∙◌}
 use mathlib.Core.List.{List, [], ◌∷◌}
-use mathlib.Core.Bool.{false}
+use mathlib.Core.Bool.{Bool, true, false, ◌&&◌}
 use native.Mathlib.Omega.{arith}
-use lib.ListN.{length, take, length-take, length-drop, drop_of_length-le}
+use lib.ListN.{length, take, drop, length-take, length-drop, drop_of_length-le}
 use lib.Seq.{take-nil}
 use lib.Dec.{eqb}
-use borrow.Author.Tests.{ne_eqb}
+use lib.Pointwise.{pointwise}
+use borrow.Author.Tests.{eqb-true, eqb-false, eq-eqb, ne_eqb}
+use Rattle.std.specs.List.{slice_range, starts_with}
+use Rattle.std.proofs.lemmas.List.{take_all}
 use Rattle.layout.specs.Bytes.{same_bytes, part}
 use Rattle.layout.specs.Shape.{Shape}
 use Rattle.layout.specs.Read.{check_place, sealed}
-use Rattle.parts.proofs.Loops.{same-pairs, unlike}
+use Rattle.parts.proofs.Loops.{same-pairs, same_listed, unlike}
+
+-- A comparison of slices, in the other order.
+other_order : (x y : List ℕ) → pointwise eqb y x ≡ pointwise eqb x y
+other_order [] [] = refl
+other_order [] (b ∷ y) = refl
+other_order (a ∷ x) [] = refl
+other_order (a ∷ x) (b ∷ y) = ap₂ (λ (s t : Bool). s && t) (go (eqb a b) refl) (other_order x y)
+  where
+    go : (t : Bool) → eqb a b ≡ t → eqb b a ≡ eqb a b
+    go true e = eq-eqb b a (sym (eqb-true a b e)) ∙ sym e
+    go false e = ne_eqb b a (λ q. eqb-false a b e (sym q)) ∙ sym e
+
+-- A check is stored at a place where the bytes from there on begin with it.
+pub begins : (image check : List ℕ) (at : ℕ) → starts_with eqb (slice_range image at (length image)) check ≡ same_bytes (part at (length check) image) check
+unfolding part
+begins image check at =
+    let rest : take (length image - at) (drop at image) ≡ drop at image = take_all _ _ (omega (arith, length-drop at image)) in
+    rw rest (other_order _ check ∙ same_listed _ check)
 
 same_none : (check : List ℕ) → eqb (length check) 0 ≡ same_bytes [] check
 same_none [] = same-pairs.none

@@ -8,9 +8,9 @@ use mathlib.Core.Logic.{◌⊎◌, inl, inr}
 use lib.ListN.{length}
 use lib.Dec.{leb}
 use borrow.Author.Tests.{leb-true, le-leb}
+use Rattle.std.specs.Prelude.{Ok}
 use Rattle.layout.specs.declared.Format.{Format}
 use Rattle.layout.specs.declared.Format.TheVariants.{Fboss, Vpd, Tiny, Onie}
-use Rattle.layout.specs.declared.Made.TheVariants.{Wrote}
 use Rattle.layout.specs.Bytes.{if, refusal}
 use Rattle.layout.specs.Editions.{shape}
 use Rattle.layout.specs.Fboss.{fboss}
@@ -54,7 +54,7 @@ put-either g image out short = go (leb (length image) (shape g).most && leb (len
     go : (b : Bool) → leb (length image) (shape g).most && leb (length image) (length out) ≡ b →
         Fits g (length image) out
         ⊎ ((Fits g (length image) out → ⊥)
-        × Refuses (told_made (if {A = Outcome} b (λ _. record { answer = Wrote (length image); memory = padded image (length out) }) (λ _. refuse (refusal 12 0) out)).answer) 12 0)
+        × Refuses (told_made (if {A = Outcome} b (λ _. record { answer = Ok (length image); memory = padded image (length out) }) (λ _. refuse (refusal 12 0) out)).answer) 12 0)
     go true t =
         let b = both (leb (length image) (shape g).most) (leb (length image) (length out)) t in
         inl (allowed-fits g (length image) out (leb-true (length image) (shape g).most b.0) (leb-true (length image) (length out) b.1))

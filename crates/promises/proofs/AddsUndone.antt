@@ -7,9 +7,9 @@ use mathlib.Core.Bool.{Bool, true, false}
 use native.Mathlib.Omega.{arith}
 use lib.ListN.{length, take}
 use lib.Seq.{take_at}
+use Rattle.std.specs.Prelude.{Ok}
 use Rattle.layout.specs.declared.Format.{Format}
 use Rattle.layout.specs.declared.Field.{Field}
-use Rattle.layout.specs.declared.Made.TheVariants.{Wrote}
 use Rattle.layout.specs.Bytes.{if}
 use Rattle.layout.specs.Shape.{Shape}
 use Rattle.layout.specs.Editions.{shape, names}
@@ -95,7 +95,7 @@ module _ (f e n : ℕ) (image : List ℕ) (x : Field) (more : List Field) (value
       let size : length former + length (entry_bytes S c) ≡ m
       = omega (arith, image-size g (flat rs), image-size g (laid (added_entries S rs c)), added-length S rs c, d.took.long) in
       let fits = put-fitting S former out' (omega (arith, d.took.allowed, d.took.long)) (omega arith) in
-      let answer : (put S former out').answer ≡ Wrote (length former) = ap (λ (o : Outcome). o.answer) fits in
+      let answer : (put S former out').answer ≡ Ok (length former) = ap (λ (o : Outcome). o.answer) fits in
       let took = put-took S former out' (length former) answer in
       let back =
       took-reads f n g rs out' (length former) (put S former out').memory newer.known newer.made.frames newer.made.lawful newer.made.required short took in

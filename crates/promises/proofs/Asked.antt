@@ -8,9 +8,9 @@ use mathlib.Core.Bool.{Bool, true, false, ◌||◌}
 use lib.ListN.{length}
 use lib.Dec.{ltb}
 use borrow.Author.Tests.{ne_eqb, lt-ltb, lt-leb}
+use Rattle.std.specs.Prelude.{Ok, Err}
 use Rattle.layout.specs.declared.Format.{Format}
 use Rattle.layout.specs.declared.Format.TheVariants.{Fboss, Vpd, Tiny, Onie}
-use Rattle.layout.specs.declared.Chosen.TheVariants.{Known, Unknown}
 use Rattle.layout.specs.Editions.{known_edition, chosen}
 use Rattle.layout.specs.Read.{limit, read_image}
 use Rattle.layout.specs.Calls.{check_image, list_entries, entry_at, value_at}
@@ -27,7 +27,7 @@ use Rattle.promises.proofs.Telling.{edition-known, known-edition, first-edition,
 -- ---- formats and editions
 
 -- 16 where the number stands for no format
-no-format : (f e : ℕ) → ((g : Format) → FormatNumber f g → ⊥) → chosen f e ≡ Unknown 16
+no-format : (f e : ℕ) → ((g : Format) → FormatNumber f g → ⊥) → chosen f e ≡ Err 16
 unfolding chosen
 no-format f e none =
     rw (
@@ -41,14 +41,14 @@ unknown-edition : (e : ℕ) → (KnownEdition e → ⊥) → known_edition e ≡
 unknown-edition e none = refuted (known_edition e) (λ q. none (known-edition e q))
 
 -- 1 where it stands for one, and the edition is not known
-pub no-edition : (f e : ℕ) (g : Format) → FormatNumber f g → (KnownEdition e → ⊥) → chosen f e ≡ Unknown 1
+pub no-edition : (f e : ℕ) (g : Format) → FormatNumber f g → (KnownEdition e → ⊥) → chosen f e ≡ Err 1
 no-edition f e g number none = number-chosen e number ∙ rw (unknown-edition e none)
 
 -- 16 where the edition is known, and before the first that has the format
-pub too-early : (f e : ℕ) (g : Format) → FormatNumber f g → KnownEdition e → e < first_edition g → chosen f e ≡ Unknown 16
+pub too-early : (f e : ℕ) (g : Format) → FormatNumber f g → KnownEdition e → e < first_edition g → chosen f e ≡ Err 16
 too-early f e g number k early = number-chosen e number ∙ rw (edition-known e k, first-edition g, lt-leb (first_edition g) e early)
 
-all-refuse : (f e n : ℕ) → chosen f e ≡ Unknown n → AllRefuse f e n
+all-refuse : (f e n : ℕ) → chosen f e ≡ Err n → AllRefuse f e n
 unfolding read_image check_image list_entries entry_at value_at write_image change_image
 all-refuse f e n k =
     record {
@@ -64,7 +64,7 @@ all-refuse f e n k =
 
 -- ---- lengths
 
-too-long : (f e : ℕ) (g : Format) → chosen f e ≡ Known g → TooLong f e
+too-long : (f e : ℕ) (g : Format) → chosen f e ≡ Ok g → TooLong f e
 unfolding read_image check_image write_image change_image
 too-long f e g k =
     record {

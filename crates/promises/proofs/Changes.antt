@@ -8,11 +8,10 @@ use native.Mathlib.Omega.{arith}
 use lib.ListN.{length}
 use lib.Dec.{ltb}
 use borrow.Author.Tests.{ltb-false}
+use Rattle.std.specs.Prelude.{Ok, Err}
 use Rattle.layout.specs.declared.Format.{Format}
 use Rattle.layout.specs.declared.Field.{Field}
-use Rattle.layout.specs.declared.Chosen.{Chosen}
-use Rattle.layout.specs.declared.Chosen.TheVariants.{Known, Unknown}
-use Rattle.layout.specs.declared.Made.TheVariants.{Wrote}
+use Rattle.layout.specs.Answers.{Chosen}
 use Rattle.layout.specs.Bytes.{if, refusal}
 use Rattle.layout.specs.Shape.{Shape}
 use Rattle.layout.specs.Editions.{shape, chosen}
@@ -46,21 +45,21 @@ entries_fit {x = x} d =
 
 module _ (x : Change) (f e : ℕ) (image out : List ℕ) (m : ℕ) where
   -- its output is not too long
-  change-short : (change_image x f e image out).answer ≡ Wrote m → length out ≤ limit
+  change-short : (change_image x f e image out).answer ≡ Ok m → length out ≤ limit
   unfolding change_image
   change-short q = choose (chosen f e) q
     where
       tests : (g : Format) (s t : Bool) → ltb limit (length out) ≡ t →
-          (if {A = Outcome} (s || t) (λ _. refuse (refusal 2 0) out) (λ _. change_read (read_as g e image) x e out)).answer ≡ Wrote m → length out ≤ limit
+          (if {A = Outcome} (s || t) (λ _. refuse (refusal 2 0) out) (λ _. change_read (read_as g e image) x e out)).answer ≡ Ok m → length out ≤ limit
       tests g true t l q = never-unwritten q
       tests g false true l q = never-unwritten q
       tests g false false l q = ltb-false limit (length out) l
 
-      choose : (y : Chosen) → (change_chosen y x e image out).answer ≡ Wrote m → length out ≤ limit
-      choose (Known g) q = tests g (ltb limit (length image)) (ltb limit (length out)) refl q
-      choose (Unknown n) q = never-unwritten q
+      choose : (y : Chosen) → (change_chosen y x e image out).answer ≡ Ok m → length out ≤ limit
+      choose (Ok g) q = tests g (ltb limit (length image)) (ltb limit (length out)) refl q
+      choose (Err n) q = never-unwritten q
 
-  pub change-done : (change_image x f e image out).answer ≡ Wrote m → Done x f e image out m
+  pub change-done : (change_image x f e image out).answer ≡ Ok m → Done x f e image out m
   change-done q = reads (read_image f e image) refl (rw by_read at q)
     where
       short : length out ≤ limit
@@ -70,7 +69,7 @@ module _ (x : Change) (f e : ℕ) (image out : List ℕ) (m : ℕ) where
       by_read = change-read x f e image out short
 
       allows : (g : Format) (start : ℕ) (rs : List Raw) (a : Allowed) → read_image f e image ≡ accepted g start rs → x.asks (shape g) e start rs ≡ a →
-          (change_allowed a (shape g) (x.entries (shape g) rs) out).answer ≡ Wrote m → Done x f e image out m
+          (change_allowed a (shape g) (x.entries (shape g) rs) out).answer ≡ Ok m → Done x f e image out m
       allows g start rs allowed r a q =
           record {
             format = g;
@@ -83,7 +82,7 @@ module _ (x : Change) (f e : ℕ) (image out : List ℕ) (m : ℕ) where
           }
       allows g start rs (denied y) r a q = never-unwritten q
 
-      reads : (y : Read) → read_image f e image ≡ y → (change_read y x e out).answer ≡ Wrote m → Done x f e image out m
+      reads : (y : Read) → read_image f e image ≡ y → (change_read y x e out).answer ≡ Ok m → Done x f e image out m
       reads (accepted g start rs) r q = allows g start rs (x.asks (shape g) e start rs) r refl q
       reads (refused y) r q = never-unwritten q
 

@@ -7,10 +7,10 @@ use mathlib.Core.Bool.{Bool, true, false}
 use native.Mathlib.Omega.{arith}
 use lib.ListN.{length, take, length-append}
 use lib.Seq.{length-take-le}
+use Rattle.std.specs.Prelude.{Ok}
 use Rattle.layout.specs.declared.Format.{Format}
 use Rattle.layout.specs.declared.Format.TheVariants.{Fboss, Vpd, Tiny, Onie}
 use Rattle.layout.specs.declared.Entry.{Entry}
-use Rattle.layout.specs.declared.Made.TheVariants.{Wrote}
 use Rattle.layout.specs.Shape.{Shape}
 use Rattle.layout.specs.Editions.{shape, names}
 use Rattle.layout.specs.Vpd.{vpd}
@@ -133,7 +133,7 @@ module _ (f e : ℕ) (image : List ℕ) (n : ℕ) (x : Found f e image n) (i : �
       let s = (change-done (edit i v) f e image out w.0 w.1).short in
       go w.0 s ((edit i v).asks S e x.start rs) refl (rw (change-accepted (edit i v) f e image n x out s) at w.1)
     where
-      go : (m : ℕ) → length out ≤ limit → (a : Allowed) → (edit i v).asks S e x.start rs ≡ a → (change_allowed a S ((edit i v).entries S rs) out).answer ≡ Wrote m →
+      go : (m : ℕ) → length out ≤ limit → (a : Allowed) → (edit i v).asks S e x.start rs ≡ a → (change_allowed a S ((edit i v).entries S rs) out).answer ≡ Ok m →
           EditableIn f e image n (list_of f e image n x) i v out
       go m s allowed a q =
           let r = editable-item S e x.start rs i v (may-editable S e x.start rs i v a) in

@@ -7,14 +7,10 @@ use mathlib.Core.Bool.{Bool, false}
 use native.Mathlib.Omega.{arith}
 use lib.ListN.{length, length-append}
 use lib.Dec.{ltb, eqb}
+use Rattle.std.specs.Prelude.{Ok, Err}
 use Rattle.layout.specs.declared.Format.{Format}
 use Rattle.layout.specs.declared.Entry.{Entry}
-use Rattle.layout.specs.declared.Checked.{Checked}
-use Rattle.layout.specs.declared.Checked.TheVariants.{Accepted, Refused}
-use Rattle.layout.specs.declared.Lookup.{Lookup}
-use Rattle.layout.specs.declared.Lookup.TheVariants.{Found, Missing}
-use Rattle.layout.specs.declared.Located.{Located}
-use Rattle.layout.specs.declared.Located.TheVariants.{At, Nowhere}
+use Rattle.layout.specs.Answers.{Checked, Lookup, Located}
 use Rattle.layout.specs.Bytes.{one_of}
 use Rattle.layout.specs.Editions.{shape}
 use Rattle.layout.specs.Walk.{Raw, content, flat}
@@ -80,12 +76,12 @@ held f e img g start rs q =
 
 -- an image has at most as many entries as bytes
 abbrev pub CheckedIn : Checked → Type 0
-CheckedIn (Accepted n) = n ≤ limit
-CheckedIn (Refused r) = Low image_numbers farthest r.number r.place.0
+CheckedIn (Ok n) = n ≤ limit
+CheckedIn (Err r) = Low image_numbers farthest r.number r.place.0
 
 abbrev pub LookupIn : Lookup → Type 0
-LookupIn (Found x) = Inside limit x
-LookupIn (Missing r) = Low (13 ∷ image_numbers) farthest r.number r.place.0
+LookupIn (Ok x) = Inside limit x
+LookupIn (Err r) = Low (13 ∷ image_numbers) farthest r.number r.place.0
 
 pub nth_in : (xs : List Entry) (n : ℕ) → Each (Inside limit) xs → LookupIn (nth xs n)
 unfolding nth one_of
@@ -95,8 +91,8 @@ nth_in (x ∷ xs) (suc n) (also i is) = nth_in xs n is
 
 -- a part of the image; this number may be given beside the image's own
 abbrev pub LocatedIn : ℕ → Located → Type 0
-LocatedIn number (At x) = x.place.0 + x.len ≤ limit
-LocatedIn number (Nowhere r) = Low (number ∷ image_numbers) farthest r.number r.place.0
+LocatedIn number (Ok x) = x.place.0 + x.len ≤ limit
+LocatedIn number (Err r) = Low (number ∷ image_numbers) farthest r.number r.place.0
 
 -- ---- strings
 

@@ -8,19 +8,11 @@ use native.Mathlib.Omega.{arith}
 use lib.ListN.{length, get_or}
 use lib.Dec.{ltb, leb, eqb}
 use borrow.Author.Tests.{eqb-true, leb-true}
+use Rattle.std.specs.Prelude.{Ok, Err, Some, None}
 use Rattle.layout.specs.declared.Format.{Format}
 use Rattle.layout.specs.declared.Format.TheVariants.{Fboss, Vpd, Tiny, Onie}
-use Rattle.layout.specs.declared.Chosen.{Chosen}
-use Rattle.layout.specs.declared.Chosen.TheVariants.{Known, Unknown}
+use Rattle.layout.specs.Answers.{Chosen, Headed, Length, Next, Opened}
 use Rattle.layout.specs.declared.Head.{Head}
-use Rattle.layout.specs.declared.Headed.{Headed}
-use Rattle.layout.specs.declared.Headed.TheVariants.{Opens, Ends, Wrong}
-use Rattle.layout.specs.declared.Length.{Length}
-use Rattle.layout.specs.declared.Length.TheVariants.{Reads, Fails}
-use Rattle.layout.specs.declared.Next.{Next}
-use Rattle.layout.specs.declared.Next.TheVariants.{Framed, Ended, Broken}
-use Rattle.layout.specs.declared.Opened.{Opened}
-use Rattle.layout.specs.declared.Opened.TheVariants.{Room, Closed}
 use Rattle.layout.specs.Bytes.{if, between, all, one_of, same_bytes, part}
 use Rattle.layout.specs.Shape.{byte_length, on_length, on_head, next, coded_head}
 use Rattle.layout.specs.Fboss.{fboss, fboss_opened}
@@ -51,27 +43,27 @@ pub tabled : (numbers : List ℕ) (n : ℕ) → all (between 1 23) numbers ≡ t
 tabled numbers n a h = let c = both (leb 1 n) (leb n 23) (every (between 1 23) numbers n a h) in (leb-true 1 n c.0, leb-true n 23 c.1)
 
 abbrev HeadNumber : Headed → Type 0
-HeadNumber (Opens h) = Unit {0}
-HeadNumber Ends = Unit {0}
-HeadNumber (Wrong n) = one_of frame_numbers n ≡ true
+HeadNumber (Ok (Some h)) = Unit {0}
+HeadNumber (Ok None) = Unit {0}
+HeadNumber (Err n) = one_of frame_numbers n ≡ true
 
 abbrev LengthNumber : Length → Type 0
-LengthNumber (Reads v j) = Unit {0}
-LengthNumber (Fails n) = one_of frame_numbers n ≡ true
+LengthNumber (Ok (v, j)) = Unit {0}
+LengthNumber (Err n) = one_of frame_numbers n ≡ true
 
 abbrev pub NextNumber : Next → Type 0
-NextNumber (Framed f) = Unit {0}
-NextNumber Ended = Unit {0}
-NextNumber (Broken n) = one_of frame_numbers n ≡ true
+NextNumber (Ok (Some f)) = Unit {0}
+NextNumber (Ok None) = Unit {0}
+NextNumber (Err n) = one_of frame_numbers n ≡ true
 
 -- the place of a header that is refused is one of its own
 abbrev pub OpenedLow : Opened → Type 0
-OpenedLow (Room start end) = Unit {0}
-OpenedLow (Closed r) = Low frame_numbers 9 r.number r.place.0
+OpenedLow (Ok (start, end)) = Unit {0}
+OpenedLow (Err r) = Low frame_numbers 9 r.number r.place.0
 
 abbrev pub ChosenNumber : List ℕ → Chosen → Type 0
-ChosenNumber numbers (Known f) = Unit {0}
-ChosenNumber numbers (Unknown n) = one_of numbers n ≡ true
+ChosenNumber numbers (Ok f) = Unit {0}
+ChosenNumber numbers (Err n) = one_of numbers n ≡ true
 
 -- ---- lengths
 
@@ -98,8 +90,8 @@ length-number Onie h s = byte-number h s
 
 keyed-number : (x : Length) (s : List ℕ) → LengthNumber x → HeadNumber (keyed_head x s)
 unfolding one_of
-keyed-number (Reads n j) s l = either HeadNumber (leb (j + n) (length s)) (λ _. tt) (λ _. refl)
-keyed-number (Fails n) s l = l
+keyed-number (Ok (n, j)) s l = either HeadNumber (leb (j + n) (length s)) (λ _. tt) (λ _. refl)
+keyed-number (Err n) s l = l
 
 coded-number : (end size : ℕ) (s : List ℕ) → HeadNumber (coded_head end size s)
 unfolding coded_head one_of
@@ -135,13 +127,13 @@ unfolding next one_of
 next-number f b s = heads ((shape f).head b s) (head-number f b s)
   where
     lengths : (h : Head) (x : Length) → LengthNumber x → NextNumber (on_length x h s)
-    lengths h (Reads v j) l = either NextNumber (leb (j + v) (length s)) (λ _. tt) (λ _. refl)
-    lengths h (Fails n) l = l
+    lengths h (Ok (v, j)) l = either NextNumber (leb (j + v) (length s)) (λ _. tt) (λ _. refl)
+    lengths h (Err n) l = l
 
     heads : (x : Headed) → HeadNumber x → NextNumber (on_head x (shape f) s)
-    heads (Opens h) l = lengths h ((shape f).vlen h s) (length-number f h s)
-    heads Ends l = tt
-    heads (Wrong n) l = l
+    heads (Ok (Some h)) l = lengths h ((shape f).vlen h s) (length-number f h s)
+    heads (Ok None) l = tt
+    heads (Err n) l = l
 
 -- ---- headers
 

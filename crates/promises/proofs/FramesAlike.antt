@@ -8,8 +8,8 @@ use mathlib.Core.Bool.{Bool, true, false}
 use lib.ListN.{length}
 use lib.Dec.{ltb}
 use borrow.Author.Tests.{ltb-false, le-ltb}
+use Rattle.std.specs.Prelude.{Ok}
 use Rattle.layout.specs.declared.Format.{Format}
-use Rattle.layout.specs.declared.Chosen.TheVariants.{Known}
 use Rattle.layout.specs.Bytes.{if, all, one_of}
 use Rattle.layout.specs.Editions.{shape}
 use Rattle.layout.specs.Walk.{Raw, content, flat}
@@ -101,7 +101,7 @@ module _ (g : Format) (image : List ℕ) (short : length image ≤ limit) where
 
 -- ---- any format number and edition
 
-read_alike : (d e : ℕ) (g : Format) (image : List ℕ) → OfFrame (read_chosen (Known g) d image) → tells (read_chosen (Known g) e image) ≡ tells (read_chosen (Known g) d image)
+read_alike : (d e : ℕ) (g : Format) (image : List ℕ) → OfFrame (read_chosen (Ok g) d image) → tells (read_chosen (Ok g) e image) ≡ tells (read_chosen (Ok g) d image)
 read_alike d e g image h = bounded (ltb limit (length image)) refl h
   where
     bounded : (t : Bool) → ltb limit (length image) ≡ t → OfFrame (if t (λ _. bad 2 0) (λ _. read_as g d image)) →

@@ -8,12 +8,10 @@ use native.Mathlib.Nat.{zero-add, add-zero, zero-sub, sub-zero, suc-sub-suc}
 use lib.ListN.{length, take, replicate}
 use lib.Seq.{take-nil}
 use borrow.Author.Tests.{lt-leb}
+use Rattle.std.specs.Prelude.{Ok, Err}
 use Rattle.layout.specs.declared.Entry.{Entry}
 use Rattle.layout.specs.declared.Refusal.{Refusal}
-use Rattle.layout.specs.declared.Lookup.{Lookup}
-use Rattle.layout.specs.declared.Lookup.TheVariants.{Found, Missing}
-use Rattle.layout.specs.declared.Located.{Located}
-use Rattle.layout.specs.declared.Located.TheVariants.{At, Nowhere}
+use Rattle.layout.specs.Answers.{Lookup, Located}
 use Rattle.layout.specs.Bytes.{all, refusal}
 use Rattle.layout.specs.Editions.{shape}
 use Rattle.layout.specs.Read.{limit, Read, refused, read_image}
@@ -38,13 +36,13 @@ use Rattle.promises.proofs.Telling.{counts-accepted, check-refused}
 -- ---- one of a list
 
 -- an item of this number is found, and nothing past the last
-nth-item : (xs : List Entry) (i : ℕ) (x : Entry) → Item xs i x → nth xs i ≡ Found x
+nth-item : (xs : List Entry) (i : ℕ) (x : Entry) → Item xs i x → nth xs i ≡ Ok x
 unfolding nth
 nth-item (y ∷ xs) zero x here = refl
 nth-item (y ∷ xs) (suc i) x (there it) = nth-item xs i x it
 nth-item [] i x x3 = elim x3 [ ]
 
-nth_past : (xs : List Entry) (i : ℕ) → length xs ≤ i → nth xs i ≡ Missing (refusal 13 0)
+nth_past : (xs : List Entry) (i : ℕ) → length xs ≤ i → nth xs i ≡ Err (refusal 13 0)
 unfolding nth
 nth_past [] i le = refl
 nth_past (y ∷ xs) zero le = absurd (omega arith)
@@ -104,8 +102,8 @@ one_by_one f e image n x =
     let xs : List Entry = entries_of (shape g) e x.start x.raws in
     let count : length xs ≡ n = entries-count (shape g) e x.start x.raws ∙ sym x.count in
     let at : (i : ℕ) → entry_at f e image i ≡ nth xs i = found_all f e image n x in
-    let item : (i : ℕ) (y : Entry) → Item xs i y → entry_at f e image i ≡ Found y = λ i y it. at i ∙ nth-item xs i y it in
-    let past : (i : ℕ) → n ≤ i → entry_at f e image i ≡ Missing (refusal 13 0) = λ i le. at i ∙ nth_past xs i (omega arith) in
+    let item : (i : ℕ) (y : Entry) → Item xs i y → entry_at f e image i ≡ Ok y = λ i y it. at i ∙ nth-item xs i y it in
+    let past : (i : ℕ) → n ≤ i → entry_at f e image i ≡ Err (refusal 13 0) = λ i le. at i ∙ nth_past xs i (omega arith) in
     let from : From f e image 0 xs = λ j. rw zero-add (at j) in
     record {
       entries = xs;
@@ -143,8 +141,8 @@ as-checked f e image r q =
 -- ---- any image
 
 twin-of : (image : List ℕ) (x : Located) → Twin image x
-twin-of image (At x) = record { number = refl; place = refl; empty = λ r. absurd (r refl) }
-twin-of image (Nowhere r) = record { number = refl; place = refl; empty = λ r. refl }
+twin-of image (Ok x) = record { number = refl; place = refl; empty = λ r. absurd (r refl) }
+twin-of image (Err r) = record { number = refl; place = refl; empty = λ r. refl }
 
 -- a missing entry is refused by a number of its table, which has no 0
 step-rule : (f e n : ℕ) (image : List ℕ) → StepRule f e n image
@@ -152,8 +150,8 @@ unfolding step_from all
 step-rule f e n image = go (entry_at f e image n) refl (entry_in f e image n)
   where
     go : (x : Lookup) → entry_at f e image n ≡ x → LookupIn x → StepRule f e n image
-    go (Found x) q l = record { answers = refl; onward = λ z. rw q; unmoved = λ r. absurd (r (rw q)) }
-    go (Missing r) q l =
+    go (Ok x) q l = record { answers = refl; onward = λ z. rw q; unmoved = λ r. absurd (r (rw q)) }
+    go (Err r) q l =
         let some : 1 ≤ r.number = (tabled (13 ∷ image_numbers) r.number refl l.number).0 in
         record { answers = refl; onward = λ z. let none : r.number ≡ 0 = rw q at z in absurd (omega arith); unmoved = λ r. rw q }
 

@@ -5,15 +5,9 @@ use mathlib.Core.Path.{◌≡◌, refl}
 use mathlib.Core.List.{List, ◌∷◌}
 use lib.ListN.{length}
 use lib.Dec.{leb}
+use Rattle.std.specs.Prelude.{Ok, Err}
 use Rattle.layout.specs.declared.Entry.{Entry}
-use Rattle.layout.specs.declared.Checked.{Checked}
-use Rattle.layout.specs.declared.Checked.TheVariants.{Accepted, Refused}
-use Rattle.layout.specs.declared.Lookup.{Lookup}
-use Rattle.layout.specs.declared.Lookup.TheVariants.{Found, Missing}
-use Rattle.layout.specs.declared.Located.{Located}
-use Rattle.layout.specs.declared.Located.TheVariants.{At, Nowhere}
-use Rattle.layout.specs.declared.Made.{Made}
-use Rattle.layout.specs.declared.Made.TheVariants.{Wrote, Unwritten}
+use Rattle.layout.specs.Answers.{Checked, Lookup, Located, Made}
 use Rattle.layout.specs.Bytes.{one_of}
 use Rattle.layout.specs.Editions.{shape}
 use Rattle.layout.specs.Read.{Read, accepted, refused, read_image}
@@ -34,20 +28,20 @@ use Rattle.promises.proofs.WriteCalls.{MadeLow, edited-low, added-low, removed-l
 -- ---- by what a call answers
 
 checked-gives : (x : Checked) → CheckedIn x → Gives image_numbers (told_checked x)
-checked-gives (Accepted n) l = taken
-checked-gives (Refused r) l = refusedBy l.number
+checked-gives (Ok n) l = taken
+checked-gives (Err r) l = refusedBy l.number
 
 lookup-gives : (x : Lookup) → LookupIn x → Gives (13 ∷ image_numbers) (told_lookup x)
-lookup-gives (Found x) l = taken
-lookup-gives (Missing r) l = refusedBy l.number
+lookup-gives (Ok x) l = taken
+lookup-gives (Err r) l = refusedBy l.number
 
 located-gives : (number : ℕ) (x : Located) → LocatedIn number x → Gives (number ∷ image_numbers) (told_located x)
-located-gives number (At x) l = taken
-located-gives number (Nowhere r) l = refusedBy l.number
+located-gives number (Ok x) l = taken
+located-gives number (Err r) l = refusedBy l.number
 
 pub made-gives : (numbers : List ℕ) (most : ℕ) (x : Made) → MadeLow numbers most x → Gives numbers (told_made x)
-made-gives numbers most (Wrote n) l = taken
-made-gives numbers most (Unwritten r) l = refusedBy l.number
+made-gives numbers most (Ok n) l = taken
+made-gives numbers most (Err r) l = refusedBy l.number
 
 list-gives : (f e : ℕ) (image : List ℕ) (records : List Entry) → Gives (12 ∷ image_numbers) (tells_list f e image records)
 unfolding list_entries one_of

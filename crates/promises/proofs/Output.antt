@@ -9,10 +9,9 @@ use lib.ListN.{length, take, replicate, length-append, length-replicate}
 use lib.Seq.{take_at}
 use lib.Dec.{leb}
 use borrow.Author.Tests.{leb-true, le-leb}
+use Rattle.std.specs.Prelude.{Ok, Err}
 use Rattle.layout.specs.declared.Format.{Format}
 use Rattle.layout.specs.declared.Refusal.{Refusal}
-use Rattle.layout.specs.declared.Chosen.TheVariants.{Known}
-use Rattle.layout.specs.declared.Made.TheVariants.{Wrote, Unwritten}
 use Rattle.layout.specs.Bytes.{if, refusal}
 use Rattle.layout.specs.Shape.{Shape}
 use Rattle.layout.specs.Editions.{shape, chosen}
@@ -34,7 +33,7 @@ pub entries-shorter : (S : Shape) (entries : List ℕ) → length entries ≤ le
 unfolding image_of
 entries-shorter S entries = simp length-append (omega arith)
 
-pub never-unwritten : {A : Type 0} {r : Refusal} {m : ℕ} → Unwritten r ≡ Wrote m → A
+pub never-unwritten : {A : Type 0} {r : Refusal} {m : ℕ} → Err r ≡ Ok m → A
 never-unwritten e = let z : ◌≡◌ {A = ℕ} 0 1 = cc in absurd (omega arith)
 
 -- an output that took an image of so many bytes, no more than its format allows
@@ -45,12 +44,12 @@ pub record Took (S : Shape) (image out : List ℕ) (m : ℕ) (memory : List ℕ)
   pub padding : memory ≡ image ++ replicate (length out - m) 0xFF
 
 -- an image that was put is no longer than its format allows, and fits the output
-pub put-fits : (S : Shape) (image out : List ℕ) (m : ℕ) → (put S image out).answer ≡ Wrote m → (length image ≤ S.most) × (length image ≤ length out)
+pub put-fits : (S : Shape) (image out : List ℕ) (m : ℕ) → (put S image out).answer ≡ Ok m → (length image ≤ S.most) × (length image ≤ length out)
 unfolding put
 put-fits S image out m q = go (leb (length image) S.most && leb (length image) (length out)) refl q
   where
     go : (b : Bool) → leb (length image) S.most && leb (length image) (length out) ≡ b →
-        (if {A = Outcome} b (λ _. record { answer = Wrote (length image); memory = padded image (length out) }) (λ _. refuse (refusal 12 0) out)).answer ≡ Wrote m →
+        (if {A = Outcome} b (λ _. record { answer = Ok (length image); memory = padded image (length out) }) (λ _. refuse (refusal 12 0) out)).answer ≡ Ok m →
         (length image ≤ S.most) × (length image ≤ length out)
     go true t q =
         let both = both (leb (length image) S.most) (leb (length image) (length out)) t in
@@ -59,11 +58,11 @@ put-fits S image out m q = go (leb (length image) S.most && leb (length image) (
 
 -- an image that does is put
 pub put-fitting : (S : Shape) (image out : List ℕ) → length image ≤ S.most → length image ≤ length out →
-    put S image out ≡ record { answer = Wrote (length image); memory = padded image (length out) }
+    put S image out ≡ record { answer = Ok (length image); memory = padded image (length out) }
 unfolding put
 put-fitting S image out allowed fits = rw (le-leb (length image) S.most allowed, le-leb (length image) (length out) fits)
 
-pub put-took : (S : Shape) (image out : List ℕ) (m : ℕ) → (put S image out).answer ≡ Wrote m → Took S image out m (put S image out).memory
+pub put-took : (S : Shape) (image out : List ℕ) (m : ℕ) → (put S image out).answer ≡ Ok m → Took S image out m (put S image out).memory
 put-took S image out m q =
     let fits = put-fits S image out m q in
     let is = put-fitting S image out fits.0 fits.1 in
@@ -72,7 +71,7 @@ put-took S image out m q =
 
 -- an output that took the image of lawful and complete entries is read as those, whole and up to the length given
 module _ (f e : ℕ) (g : Format) (rs : List Raw) (out : List ℕ) (m : ℕ) (memory : List ℕ) where
-  pub took-readings : chosen f e ≡ Known g → Frames (shape g) (grammar g) false rs → Lawful (shape g) e [] (map content rs) → complete (shape g).required (codes_of rs) ≡ true →
+  pub took-readings : chosen f e ≡ Ok g → Frames (shape g) (grammar g) false rs → Lawful (shape g) e [] (map content rs) → complete (shape g).required (codes_of rs) ≡ true →
       length out ≤ limit → Took (shape g) (image_of (shape g) (flat rs)) out m memory →
       let start = length ((shape g).header (length (flat rs))) in
       Reading f e memory g start rs × Reading f e (take m memory) g start rs
@@ -93,7 +92,7 @@ module _ (f e : ℕ) (g : Format) (rs : List Raw) (out : List ℕ) (m : ℕ) (me
       let fitsFront : length (take m memory) ≤ limit = rw (t.padding, take_at image pad m (sym t.long)) (omega (arith, t.fits)) in
       (rw whole (read pad (rw whole at fits_whole)), rw front (read [] (rw front at fitsFront)))
 
-  pub took-reads : chosen f e ≡ Known g → Frames (shape g) (grammar g) false rs → Lawful (shape g) e [] (map content rs) → complete (shape g).required (codes_of rs) ≡ true →
+  pub took-reads : chosen f e ≡ Ok g → Frames (shape g) (grammar g) false rs → Lawful (shape g) e [] (map content rs) → complete (shape g).required (codes_of rs) ≡ true →
       length out ≤ limit → Took (shape g) (image_of (shape g) (flat rs)) out m memory → Reads f e memory (map content rs) × Reads f e (take m memory) (map content rs)
   took-reads k fs lw cm short t =
       let r = took-readings k fs lw cm short t in

@@ -5,8 +5,8 @@ use mathlib.Core.Path.{◌≡◌, refl, ap, ap₂}
 use mathlib.Core.List.{List, [], ◌∷◌, ◌++◌, map}
 use mathlib.Core.Bool.{Bool, false}
 use lib.ListN.{length}
+use Rattle.std.specs.Prelude.{Ok}
 use Rattle.layout.specs.declared.Format.{Format}
-use Rattle.layout.specs.declared.Chosen.TheVariants.{Known}
 use Rattle.layout.specs.Shape.{Shape}
 use Rattle.layout.specs.Editions.{shape, chosen}
 use Rattle.layout.specs.Walk.{Raw, Content, content, flat}
@@ -94,7 +94,7 @@ of-grammar f e image n x =
       reads = reads f e image g x.start rs r;
     }
 
-is_read : (f e : ℕ) (g : Format) (image : List ℕ) (cs : List Content) → chosen f e ≡ Known g → (p : Published g e image cs) →
+is_read : (f e : ℕ) (g : Format) (image : List ℕ) (cs : List Content) → chosen f e ≡ Ok g → (p : Published g e image cs) →
     Walks (shape g) (grammar g) false p.entries cs → Reads f e image cs
 is_read f e g image cs k p w =
     let S : Shape = shape g in

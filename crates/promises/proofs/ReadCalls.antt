@@ -7,8 +7,8 @@ use mathlib.Core.Bool.{false}
 use native.Mathlib.Omega.{arith}
 use lib.ListN.{length}
 use lib.Dec.{eqb}
-use Rattle.layout.specs.declared.Lookup.{Lookup}
-use Rattle.layout.specs.declared.Lookup.TheVariants.{Found, Missing}
+use Rattle.std.specs.Prelude.{Ok, Err}
+use Rattle.layout.specs.Answers.{Lookup}
 use Rattle.layout.specs.Bytes.{one_of}
 use Rattle.layout.specs.Editions.{shape}
 use Rattle.layout.specs.Read.{limit, Read, accepted, refused, read_image}
@@ -48,8 +48,8 @@ module _ (f e : ℕ) (img : List ℕ) where
   value_in n = go (entry_at f e img n) (entry_in n)
     where
       go : (x : Lookup) → LookupIn x → LocatedIn 13 (value_of x)
-      go (Found x) l = l.value
-      go (Missing r) l = l
+      go (Ok x) l = l.value
+      go (Err r) l = l
 
   pub string-in : (number : ℕ) → LocatedIn 15 (string_at f e img number)
   unfolding string_at one_of

@@ -8,13 +8,10 @@ use native.Mathlib.Omega.{arith}
 use lib.ListN.{length, drop, length-append, length-drop}
 use lib.Dec.{ltb, eqb}
 use borrow.Author.Tests.{ltb-false, ne_eqb}
+use Rattle.std.specs.Prelude.{Ok, Err, Some, None}
 use Rattle.layout.specs.declared.Format.{Format}
 use Rattle.layout.specs.declared.Frame.{Frame}
-use Rattle.layout.specs.declared.Chosen.{Chosen}
-use Rattle.layout.specs.declared.Chosen.TheVariants.{Known, Unknown}
-use Rattle.layout.specs.declared.Next.{Next}
-use Rattle.layout.specs.declared.Next.TheVariants.{Framed, Ended, Broken}
-use Rattle.layout.specs.declared.Opened.TheVariants.{Room, Closed}
+use Rattle.layout.specs.Answers.{Chosen, Next}
 use Rattle.layout.specs.declared.Refusal.{Refusal}
 use Rattle.layout.specs.Bytes.{if, all, one_of, part}
 use Rattle.layout.specs.Shape.{Label, next, Judged, fine, faulty}
@@ -56,11 +53,11 @@ walks-low f (suc d) b p s most le =
     go : (x : Next) → next (shape f) b s ≡ x → NextNumber x →
         ((g : Frame) → p + g.size + length (drop g.size s) ≤ most → WalkedLow most (walks d (shape f) ((shape f).last g.code) (p + g.size) (drop g.size s))) →
         WalkedLow most (turn x p s (λ g. walks d (shape f) ((shape f).last g.code) (p + g.size) (drop g.size s)))
-    go (Framed g) q l rest =
+    go (Ok (Some g)) q l rest =
         let i = framed-in (laws f) b s g q in
         more-low most _ (walks d (shape f) ((shape f).last g.code) (p + g.size) (drop g.size s)) (rest g (omega (arith, length-drop g.size s)))
-    go Ended q l rest = omega arith
-    go (Broken n) q l rest = record { number = l; place = omega arith }
+    go (Ok None) q l rest = omega arith
+    go (Err n) q l rest = record { number = l; place = omega arith }
 
 -- ---- the rules
 
@@ -121,7 +118,7 @@ ruled-low f e img start rs short x =
     let inside = entries-in (shape f) img (flat rs) x.closing x.rest start x.is x.starts in
     complete-low f start rs (judge (shape f) e [] rs start) (judge-low f e [] false rs start limit x.frames (omega arith))
 
-walk-low : (f : Format) (img : List ℕ) (start end : ℕ) → length img ≤ limit → (shape f).opened img ≡ Room start end →
+walk-low : (f : Format) (img : List ℕ) (start end : ℕ) → length img ≤ limit → (shape f).opened img ≡ Ok (start, end) →
     WalkedLow limit (walk (shape f) false start (part start (end - start) img))
 unfolding walk
 walk-low f img start end short q =
@@ -132,7 +129,7 @@ walk-low f img start end short q =
 -- what is refused before the rules is refused with a number of a bad frame
 pub unframed-low : (f : Format) (img : List ℕ) (r : Refusal) → length img ≤ limit → Unframed f img r → Low frame_numbers farthest r.number r.place.0
 unfolding one_of
-unframed-low f img r short (bad_header o) = let l : OpenedLow (Closed r) = rw o at (opened-low f img) in record { number = l.number; place = omega (arith, l.place) }
+unframed-low f img r short (bad_header o) = let l : OpenedLow (Err r) = rw o at (opened-low f img) in record { number = l.number; place = omega (arith, l.place) }
 unframed-low f img _ short (bad_frame {start} {end} {n} {p} o w) =
     let l : WalkedLow limit (stop n p) = rw w at (walk-low f img start end short o) in record { number = l.number; place = omega (arith, l.place) }
 unframed-low f img _ short (bad_room {end = end} {p = p} {n = n} {q = q} o w t) = let five = filled-five f p end n q t in record { number = rw five.0; place = omega (arith, five.1) }
@@ -158,9 +155,9 @@ unfolding read_image one_of
 image-low f e img = choose (chosen f e) (chosen-number image_numbers refl refl f e)
   where
     choose : (x : Chosen) → ChosenNumber image_numbers x → ReadLow image_numbers (read_chosen x e img)
-    choose (Known g) l =
+    choose (Ok g) l =
         either (ReadLow image_numbers) (ltb limit (length img)) (λ _. record { number = refl; place = omega arith }) (λ t. read_low g e img (ltb-false limit (length img) t))
-    choose (Unknown n) l = record { number = l; place = omega arith }
+    choose (Err n) l = record { number = l; place = omega arith }
 
 pub refused-low : (f e : ℕ) (img : List ℕ) (r : Refusal) → read_image f e img ≡ refused r → Low image_numbers farthest r.number r.place.0
 refused-low f e img r q = rw q at (image-low f e img)

@@ -8,12 +8,11 @@ use native.Mathlib.Omega.{arith}
 use lib.ListN.{length, take}
 use lib.Dec.{ltb}
 use borrow.Author.Tests.{ltb-false, eqb-true, ne_eqb}
+use Rattle.std.specs.Prelude.{Ok, Err}
 use Rattle.layout.specs.declared.Format.{Format}
 use Rattle.layout.specs.declared.Format.TheVariants.{Fboss, Vpd, Tiny, Onie}
 use Rattle.layout.specs.declared.Field.{Field}
-use Rattle.layout.specs.declared.Chosen.{Chosen}
-use Rattle.layout.specs.declared.Chosen.TheVariants.{Known, Unknown}
-use Rattle.layout.specs.declared.Made.TheVariants.{Wrote}
+use Rattle.layout.specs.Answers.{Chosen}
 use Rattle.layout.specs.Bytes.{if, refusal}
 use Rattle.layout.specs.Shape.{Shape, Judged, fine, faulty}
 use Rattle.layout.specs.Fboss.{fboss}
@@ -50,19 +49,19 @@ fields-said f g values (x ∷ xs) s = ap₂ (λ (y : Content) (ys : List Content
 
 pub record Done (f e : ℕ) (xs : List Field) (values out : List ℕ) (n : ℕ) : Type 0 where
   pub format : Format
-  pub known : chosen f e ≡ Known format
+  pub known : chosen f e ≡ Ok format
   pub short : length out ≤ limit
   pub judged : judge_fields (shape format) e values false [] xs 0 ≡ fine
   pub required : complete (shape format).required (content_codes (contents_of (shape format) values xs)) ≡ true
   pub took : Took (shape format) (image_of (shape format) (entries_bytes (shape format) (contents_of (shape format) values xs))) out n (write_image f e xs values out).memory
 
-pub write_done : (f e : ℕ) (xs : List Field) (values out : List ℕ) (n : ℕ) → (write_image f e xs values out).answer ≡ Wrote n → Done f e xs values out n
+pub write_done : (f e : ℕ) (xs : List Field) (values out : List ℕ) (n : ℕ) → (write_image f e xs values out).answer ≡ Ok n → Done f e xs values out n
 unfolding write_image write_as
 write_done f e xs values out n q = choose (chosen f e) refl q
   where
-    required : (g : Format) (b : Bool) → chosen f e ≡ Known g → ltb limit (length out) ≡ false → judge_fields (shape g) e values false [] xs 0 ≡ fine →
+    required : (g : Format) (b : Bool) → chosen f e ≡ Ok g → ltb limit (length out) ≡ false → judge_fields (shape g) e values false [] xs 0 ≡ fine →
         complete (shape g).required (content_codes (contents_of (shape g) values xs)) ≡ b →
-        (if {A = Outcome} b (λ _. put (shape g) (image_of (shape g) (entries_bytes (shape g) (contents_of (shape g) values xs))) out) (λ _. refuse (refusal 11 0) out)).answer ≡ Wrote n →
+        (if {A = Outcome} b (λ _. put (shape g) (image_of (shape g) (entries_bytes (shape g) (contents_of (shape g) values xs))) out) (λ _. refuse (refusal 11 0) out)).answer ≡ Ok n →
         Done f e xs values out n
     required g true k l j c q =
         record {
@@ -75,19 +74,19 @@ write_done f e xs values out n q = choose (chosen f e) refl q
         }
     required g false k l j c q = never-unwritten q
 
-    judged : (g : Format) (j : Judged) → chosen f e ≡ Known g → ltb limit (length out) ≡ false → judge_fields (shape g) e values false [] xs 0 ≡ j →
-        (write_judged j (shape g) (contents_of (shape g) values xs) out).answer ≡ Wrote n → Done f e xs values out n
+    judged : (g : Format) (j : Judged) → chosen f e ≡ Ok g → ltb limit (length out) ≡ false → judge_fields (shape g) e values false [] xs 0 ≡ j →
+        (write_judged j (shape g) (contents_of (shape g) values xs) out).answer ≡ Ok n → Done f e xs values out n
     judged g fine k l j q = required g (complete (shape g).required (content_codes (contents_of (shape g) values xs))) k l j refl q
     judged g (faulty m i) k l j q = never-unwritten q
 
-    bounded : (g : Format) (b : Bool) → chosen f e ≡ Known g → ltb limit (length out) ≡ b →
-        (if {A = Outcome} b (λ _. refuse (refusal 2 0) out) (λ _. write_as g e xs values out)).answer ≡ Wrote n → Done f e xs values out n
+    bounded : (g : Format) (b : Bool) → chosen f e ≡ Ok g → ltb limit (length out) ≡ b →
+        (if {A = Outcome} b (λ _. refuse (refusal 2 0) out) (λ _. write_as g e xs values out)).answer ≡ Ok n → Done f e xs values out n
     bounded g true k l q = never-unwritten q
     bounded g false k l q = judged g (judge_fields (shape g) e values false [] xs 0) k l refl q
 
-    choose : (x : Chosen) → chosen f e ≡ x → (write_chosen x e xs values out).answer ≡ Wrote n → Done f e xs values out n
-    choose (Known g) k q = bounded g (ltb limit (length out)) k refl q
-    choose (Unknown m) k q = never-unwritten q
+    choose : (x : Chosen) → chosen f e ≡ x → (write_chosen x e xs values out).answer ≡ Ok n → Done f e xs values out n
+    choose (Ok g) k q = bounded g (ltb limit (length out)) k refl q
+    choose (Err m) k q = never-unwritten q
 
 -- the bytes of the entries are no more than an image's
 pub done-short : {f e : ℕ} {xs : List Field} {values out : List ℕ} {n : ℕ} (d : Done f e xs values out n) →

@@ -8,11 +8,11 @@ use native.Mathlib.Omega.{arith}
 use lib.ListN.{length, length-append}
 use lib.Dec.{ltb, eqb}
 use borrow.Author.Tests.{ltb-true, ltb-false, le-ltb, eq-eqb, ne_eqb}
+use Rattle.std.specs.Prelude.{Ok}
 use Rattle.layout.specs.declared.Format.TheVariants.{Tiny}
 use Rattle.layout.specs.declared.Part.{Part}
 use Rattle.layout.specs.declared.Entry.{Entry}
 use Rattle.layout.specs.declared.Refusal.{Refusal}
-use Rattle.layout.specs.declared.Located.TheVariants.{At}
 use Rattle.layout.specs.Bytes.{part_at}
 use Rattle.layout.specs.Tiny.{tiny}
 use Rattle.layout.specs.Walk.{Raw, content}
@@ -40,7 +40,7 @@ no_item it = elim it [ ]
 record Cut (p : ℕ) (front bs : List ℕ) : Type 0 where
   parts : List Part
   cut : Strings p (front ++ bs) parts
-  found : (k : ℕ) (x : Part) → Item parts k x → string_in bs p (length front) k ≡ At x
+  found : (k : ℕ) (x : Part) → Item parts k x → string_in bs p (length front) k ≡ Ok x
   past : (k : ℕ) → length parts ≤ k → string_in bs p (length front) k ≡ no_string
 
 -- a string goes on with a byte whose top bit is off
@@ -62,7 +62,7 @@ cut-after b bs front p low high c = record { parts = part_at p (length front + 1
     passes : (k : ℕ) → string_in (b ∷ bs) p (length front) (suc k) ≡ string_in bs (p + (length front + 1)) 0 k
     passes k = let next : p + length front + 1 ≡ p + (length front + 1) = omega arith in rw (le-ltb b 128 high, next)
 
-    finds : (k : ℕ) (x : Part) → Item (part_at p (length front + 1) ∷ c.parts) k x → string_in (b ∷ bs) p (length front) k ≡ At x
+    finds : (k : ℕ) (x : Part) → Item (part_at p (length front + 1) ∷ c.parts) k x → string_in (b ∷ bs) p (length front) k ≡ Ok x
     finds zero x here = rw (le-ltb b 128 high)
     finds (suc k) x (there it) = passes k ∙ c.found k x it
 
@@ -116,7 +116,7 @@ module _ (e : ℕ) (image : List ℕ) (start : ℕ) (rs : List Raw) (r : Reading
       let c : Cut x.value.place.0 [] (said image x).value = cut_of (said image x).value [] x.value.place.0 none in
       let at : (k : ℕ) → string_at 3 e image k ≡ string_in (said image x).value x.value.place.0 0 k
       = λ k. strings-read k ∙ pool-is e image rs start false r.made.frames (records-say 3 e image Tiny start rs r) i x it is k in
-      let found : (k : ℕ) (y : Part) → Item c.parts k y → string_at 3 e image k ≡ At y = λ k y one. at k ∙ c.found k y one in
+      let found : (k : ℕ) (y : Part) → Item c.parts k y → string_at 3 e image k ≡ Ok y = λ k y one. at k ∙ c.found k y one in
       record {
         parts = c.parts;
         cut = c.cut;

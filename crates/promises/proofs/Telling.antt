@@ -8,15 +8,12 @@ use native.Mathlib.Omega.{arith}
 use lib.ListN.{length}
 use lib.Dec.{leb}
 use borrow.Author.Tests.{eqb-true, leb-true, le-leb}
+use Rattle.std.specs.Prelude.{Ok, Err}
 use Rattle.layout.specs.declared.Format.{Format}
 use Rattle.layout.specs.declared.Format.TheVariants.{Fboss, Vpd, Tiny, Onie}
 use Rattle.layout.specs.declared.Field.{Field}
 use Rattle.layout.specs.declared.Refusal.{Refusal}
-use Rattle.layout.specs.declared.Chosen.TheVariants.{Known}
-use Rattle.layout.specs.declared.Checked.{Checked}
-use Rattle.layout.specs.declared.Checked.TheVariants.{Accepted, Refused}
-use Rattle.layout.specs.declared.Made.{Made}
-use Rattle.layout.specs.declared.Made.TheVariants.{Wrote, Unwritten}
+use Rattle.layout.specs.Answers.{Checked, Made}
 use Rattle.layout.specs.Bytes.{between, all}
 use Rattle.layout.specs.Fboss.{fboss as fbossShape}
 use Rattle.layout.specs.Vpd.{vpd as vpdShape}
@@ -67,7 +64,7 @@ one_format vpd vpd = refl
 one_format tiny tiny = refl
 one_format onie onie = refl
 
-pub serves-chosen : {f e : ℕ} {g : Format} → Serves f e g → chosen f e ≡ Known g
+pub serves-chosen : {f e : ℕ} {g : Format} → Serves f e g → chosen f e ≡ Ok g
 serves-chosen {f} {e} {g} s =
     number-chosen e s.number ∙ rw (edition-known e s.edition, first-edition g, le-leb (first_edition g) e s.since)
 
@@ -77,7 +74,7 @@ stands-numbered f Vpd (two d e) = rw (eqb-true f 2 e) vpd
 stands-numbered f Tiny (three c d e) = rw (eqb-true f 3 e) tiny
 stands-numbered f Onie (four b c d e) = rw (eqb-true f 4 e) onie
 
-pub chosen-serves : (f e : ℕ) (g : Format) → chosen f e ≡ Known g → Serves f e g
+pub chosen-serves : (f e : ℕ) (g : Format) → chosen f e ≡ Ok g → Serves f e g
 chosen-serves f e g q =
     let s = chosen-stands f e g q in
     record {
@@ -88,13 +85,13 @@ chosen-serves f e g q =
 
 -- ---- check
 
-pub counts-accepted : (f e : ℕ) (image : List ℕ) (n : ℕ) → Counts (tells_check f e image) n → check_image f e image ≡ Accepted n
+pub counts-accepted : (f e : ℕ) (image : List ℕ) (n : ℕ) → Counts (tells_check f e image) n → check_image f e image ≡ Ok n
 unfolding all
 counts-accepted f e image n q = go (check_image f e image) (checked-in f e image) q
   where
-    go : (x : Checked) → CheckedIn x → Counts (told_checked x) n → x ≡ Accepted n
-    go (Accepted m) l q = ap Accepted (ap (λ (t : Told). t.count) q)
-    go (Refused r) l q = let z : r.number ≡ 0 = ap (λ (t : Told). t.number) q in absurd (omega (arith, tabled image_numbers r.number refl l.number))
+    go : (x : Checked) → CheckedIn x → Counts (told_checked x) n → x ≡ Ok n
+    go (Ok m) l q = ap Ok (ap (λ (t : Told). t.count) q)
+    go (Err r) l q = let z : r.number ≡ 0 = ap (λ (t : Told). t.number) q in absurd (omega (arith, tabled image_numbers r.number refl l.number))
 
 pub check-refused : (f e : ℕ) (image : List ℕ) → IsRefused (tells_check f e image) → (r : Refusal) × (read_image f e image ≡ refused r)
 unfolding check_image
@@ -107,31 +104,31 @@ check-refused f e image h = go (read_image f e image) refl h
 -- ---- calls that make an image
 
 module _ (numbers : List ℕ) (most : ℕ) (table : all (between 1 23) numbers ≡ true) where
-  pub made_some : (x : Made) → MadeLow numbers most x → (told_made x).number ≡ 0 → (n : ℕ) × (x ≡ Wrote n)
-  made_some (Wrote n) l z = (n, refl)
-  made_some (Unwritten r) l z = absurd (omega (arith, tabled numbers r.number table l.number))
+  pub made_some : (x : Made) → MadeLow numbers most x → (told_made x).number ≡ 0 → (n : ℕ) × (x ≡ Ok n)
+  made_some (Ok n) l z = (n, refl)
+  made_some (Err r) l z = absurd (omega (arith, tabled numbers r.number table l.number))
 
-  made-counts : (x : Made) (n : ℕ) → MadeLow numbers most x → Counts (told_made x) n → x ≡ Wrote n
+  made-counts : (x : Made) (n : ℕ) → MadeLow numbers most x → Counts (told_made x) n → x ≡ Ok n
   made-counts x n l q =
       let w = made_some x l (ap (λ (t : Told). t.number) q) in
-      let c : (told_made (Wrote w.0)).count ≡ n = rw w.1 at (ap (λ (t : Told). t.count) q) in
-      w.1 ∙ ap Wrote c
+      let c : (told_made (Ok w.0)).count ≡ n = rw w.1 at (ap (λ (t : Told). t.count) q) in
+      w.1 ∙ ap Ok c
 
 module _ (f e : ℕ) (fields : List Field) (values out : List ℕ) where
-  pub written-some : (tells_write f e fields values out).number ≡ 0 → (n : ℕ) × ((write_image f e fields values out).answer ≡ Wrote n)
+  pub written-some : (tells_write f e fields values out).number ≡ 0 → (n : ℕ) × ((write_image f e fields values out).answer ≡ Ok n)
   unfolding all
   written-some z = made_some write_numbers (length fields) refl (write_image f e fields values out).answer (written_low f e fields values out) z
 
-  pub counts-written : (n : ℕ) → Counts (tells_write f e fields values out) n → (write_image f e fields values out).answer ≡ Wrote n
+  pub counts-written : (n : ℕ) → Counts (tells_write f e fields values out) n → (write_image f e fields values out).answer ≡ Ok n
   unfolding all
   counts-written n q = made-counts write_numbers (length fields) refl (write_image f e fields values out).answer n (written_low f e fields values out) q
 
 -- a change, whose refusals are of the table
 module _ (x : Change) (f e : ℕ) (image out : List ℕ) (low : MadeLow change_numbers farthest (change_image x f e image out).answer) where
-  pub changed-some : (told_made (change_image x f e image out).answer).number ≡ 0 → (m : ℕ) × ((change_image x f e image out).answer ≡ Wrote m)
+  pub changed-some : (told_made (change_image x f e image out).answer).number ≡ 0 → (m : ℕ) × ((change_image x f e image out).answer ≡ Ok m)
   unfolding all
   changed-some z = made_some change_numbers farthest refl (change_image x f e image out).answer low z
 
-  pub counts-changed : (m : ℕ) → Counts (told_made (change_image x f e image out).answer) m → (change_image x f e image out).answer ≡ Wrote m
+  pub counts-changed : (m : ℕ) → Counts (told_made (change_image x f e image out).answer) m → (change_image x f e image out).answer ≡ Ok m
   unfolding all
   counts-changed m q = made-counts change_numbers farthest refl (change_image x f e image out).answer m low q

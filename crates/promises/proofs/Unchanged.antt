@@ -6,10 +6,10 @@ use mathlib.Core.List.{List, []}
 use mathlib.Core.Bool.{false, ◌&&◌, ◌||◌}
 use lib.ListN.{length}
 use lib.Dec.{ltb, leb}
+use Rattle.std.specs.Prelude.{Ok, Err}
 use Rattle.layout.specs.declared.Entry.{Entry}
 use Rattle.layout.specs.declared.Field.{Field}
-use Rattle.layout.specs.declared.Chosen.{Chosen}
-use Rattle.layout.specs.declared.Chosen.TheVariants.{Known, Unknown}
+use Rattle.layout.specs.Answers.{Chosen}
 use Rattle.layout.specs.Shape.{Shape, Judged, fine, faulty}
 use Rattle.layout.specs.Editions.{shape, chosen}
 use Rattle.layout.specs.Walk.{Content}
@@ -42,10 +42,10 @@ write-leaves f e fields values out = choose (chosen f e)
     judged S cs (faulty n i) = λ h. refl
 
     choose : (x : Chosen) → Leaves out (write_chosen x e fields values out)
-    choose (Known g) =
+    choose (Ok g) =
         either (Leaves out) (ltb limit (length out)) (λ _ h. refl)
         (λ _. judged (shape g) (contents_of (shape g) values fields) (judge_fields (shape g) e values false [] fields 0))
-    choose (Unknown n) = λ h. refl
+    choose (Err n) = λ h. refl
 
 change-leaves : (x : Change) (f e : ℕ) (image out : List ℕ) → Leaves out (change_image x f e image out)
 unfolding change_image
@@ -60,8 +60,8 @@ change-leaves x f e image out = choose (chosen f e)
     reads (refused r) = λ h. refl
 
     choose : (y : Chosen) → Leaves out (change_chosen y x e image out)
-    choose (Known g) = either (Leaves out) (ltb limit (length image) || ltb limit (length out)) (λ _ h. refl) (λ _. reads (read_as g e image))
-    choose (Unknown n) = λ h. refl
+    choose (Ok g) = either (Leaves out) (ltb limit (length image) || ltb limit (length out)) (λ _ h. refl) (λ _. reads (read_as g e image))
+    choose (Err n) = λ h. refl
 
 list-leaves : (f e : ℕ) (image : List ℕ) (records : List Entry) → IsRefused (tells_list f e image records) → (list_entries f e image records).records ≡ records
 unfolding list_entries

@@ -8,10 +8,10 @@ use mathlib.Core.Bool.{Bool, true, false}
 use lib.ListN.{length}
 use lib.Dec.{ltb}
 use borrow.Author.Tests.{ltb-true, ltb-false, ne_eqb, lt-ltb, le-ltb}
+use Rattle.std.specs.Prelude.{Ok, Err}
 use Rattle.layout.specs.declared.Format.{Format}
 use Rattle.layout.specs.declared.Format.TheVariants.{Onie}
-use Rattle.layout.specs.declared.Chosen.{Chosen}
-use Rattle.layout.specs.declared.Chosen.TheVariants.{Known, Unknown}
+use Rattle.layout.specs.Answers.{Chosen}
 use Rattle.layout.specs.Bytes.{refusal}
 use Rattle.layout.specs.Editions.{chosen}
 use Rattle.layout.specs.Read.{limit, read_chosen, read_image}
@@ -25,19 +25,19 @@ use Rattle.promises.proofs.Asked.{no-edition, too-early}
 
 -- ---- what both calls ask
 
-other-asked : (f e lent : ℕ) → (f ≡ 4 → ⊥) → asked f e lent ≡ Unknown 16
+other-asked : (f e lent : ℕ) → (f ≡ 4 → ⊥) → asked f e lent ≡ Err 16
 unfolding asked
 other-asked f e lent other = rw (ne_eqb f 4 other)
 
-asked-unknown : (e lent n : ℕ) → chosen 4 e ≡ Unknown n → asked 4 e lent ≡ Unknown n
+asked-unknown : (e lent n : ℕ) → chosen 4 e ≡ Err n → asked 4 e lent ≡ Err n
 unfolding asked
 asked-unknown e lent n q = rw q
 
-long-asked : (e lent : ℕ) (g : Format) → chosen 4 e ≡ Known g → limit < lent → asked 4 e lent ≡ Unknown 2
+long-asked : (e lent : ℕ) (g : Format) → chosen 4 e ≡ Ok g → limit < lent → asked 4 e lent ≡ Err 2
 unfolding asked
 long-asked e lent g q lt = rw (q, lt-ltb limit lent lt)
 
-pub short-asked : (e lent : ℕ) (g : Format) → chosen 4 e ≡ Known g → lent ≤ limit → asked 4 e lent ≡ Known g
+pub short-asked : (e lent : ℕ) (g : Format) → chosen 4 e ≡ Ok g → lent ≤ limit → asked 4 e lent ≡ Ok g
 unfolding asked
 short-asked e lent g q le = rw (q, le-ltb limit lent le)
 
@@ -53,12 +53,12 @@ unfolding read_image
 read_by e image buffer le = go (chosen 4 e) refl
   where
     go : (x : Chosen) → chosen 4 e ≡ x → read_vendor 4 e image buffer ≡ take_read (read_chosen (chosen 4 e) e image) buffer
-    go (Known g) q = read_asked 4 e image buffer g (short-asked e (length buffer) g q le)
-    go (Unknown n) q = read-unasked 4 e image buffer n (asked-unknown e (length buffer) n q) ∙ rw q
+    go (Ok g) q = read_asked 4 e image buffer g (short-asked e (length buffer) g q le)
+    go (Err n) q = read-unasked 4 e image buffer n (asked-unknown e (length buffer) n q) ∙ rw q
 
 -- ---- refused
 
-both-refuse : (f e n : ℕ) → ((lent : ℕ) → asked f e lent ≡ Unknown n) →
+both-refuse : (f e n : ℕ) → ((lent : ℕ) → asked f e lent ≡ Err n) →
     ((image buffer : List ℕ) → Refuses (tells_vendor f e image buffer) n 0)
     × ((serial : List ℕ) (o : Offsets) (pieces out : List ℕ) → Refuses (tells_vendor_write f e serial o pieces out) n 0)
 both-refuse f e n q = (
@@ -67,7 +67,7 @@ both-refuse f e n q = (
 )
 
 -- a too long image is refused whatever is asked of the buffer, by 2 as well
-long-image : (e : ℕ) (g : Format) (image buffer : List ℕ) → chosen 4 e ≡ Known g → limit < length image → Refuses (tells_vendor 4 e image buffer) 2 0
+long-image : (e : ℕ) (g : Format) (image buffer : List ℕ) → chosen 4 e ≡ Ok g → limit < length image → Refuses (tells_vendor 4 e image buffer) 2 0
 unfolding read_image
 long-image e g image buffer q lt = go (ltb limit (length buffer)) refl
   where
@@ -87,6 +87,6 @@ vendor-asked =
       );
     }
   where
-    long : (e : ℕ) → chosen 4 e ≡ Known Onie → (image buffer : List ℕ) → (limit < length image) ⊎ (limit < length buffer) → Refuses (tells_vendor 4 e image buffer) 2 0
+    long : (e : ℕ) → chosen 4 e ≡ Ok Onie → (image buffer : List ℕ) → (limit < length image) ⊎ (limit < length buffer) → Refuses (tells_vendor 4 e image buffer) 2 0
     long e q image buffer (inl lt) = long-image e Onie image buffer q lt
     long e q image buffer (inr lt) = rw (read-unasked 4 e image buffer 2 (long-asked e (length buffer) Onie q lt))

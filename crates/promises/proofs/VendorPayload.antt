@@ -10,6 +10,7 @@ use lib.ListN.{length, get_or, take, drop, length-append, length-drop, take-appe
 use lib.Seq.{length-take-le, take_all, take_at, drop_at, drop-drop, drop-cons, get_or_at, get_or-drop}
 use lib.Dec.{eqb}
 use borrow.Author.Tests.{eqb-true, eq-eqb, ne_eqb, le-leb, lt-leb}
+use Rattle.std.specs.Prelude.{Ok, Err}
 use Rattle.crc.specs.Crc.{check32_of}
 use Rattle.layout.specs.Bytes.{same_bytes, part, part_at}
 use Rattle.layout.specs.Onie.{four_bytes}
@@ -18,9 +19,7 @@ use Rattle.laws.proofs.Frames.{part-between}
 use Rattle.layout.proofs.Lists.{same_refl, same_true}
 use Rattle.blocks.specs.declared.Offsets.{Offsets}
 use Rattle.blocks.specs.declared.Block.{Block}
-use Rattle.blocks.specs.declared.Said.{Said}
-use Rattle.blocks.specs.declared.Said.TheVariants.{Says, Wrong}
-use Rattle.blocks.specs.declared.Vended.TheVariants.{Tells}
+use Rattle.blocks.specs.Answers.{Said}
 use Rattle.blocks.specs.Payload.{serial_length, block_length, block_place, measured, checked, amplifier, block_of, payload_says}
 use Rattle.blocks.specs.Vendor.{Taking, taking, told_vended}
 use Rattle.promises.specs.Payload.{Parts, RightCheck, Amplifier, SaysOffsets}
@@ -174,20 +173,20 @@ module _ {s : List ℕ} (x : Parts s) where
 
   -- ---- what it comes to
 
-  parts-unchecked : (RightCheck x → ⊥) → payload_says s ≡ Wrong 19
+  parts-unchecked : (RightCheck x → ⊥) → payload_says s ≡ Err 19
   unfolding payload_says
   parts-unchecked wrong = rw (parts-measured, refuted (checked s) (λ q. wrong (checked-right q)))
 
-  parts-other : RightCheck x → (Amplifier block → ⊥) → payload_says s ≡ Wrong 20
+  parts-other : RightCheck x → (Amplifier block → ⊥) → payload_says s ≡ Err 20
   unfolding payload_says
   parts-other right other = rw (parts-measured, right-checked right, refuted (amplifier s) (λ q. other (is-amplifier q)))
 
-  parts-block : RightCheck x → Amplifier block → payload_says s ≡ Says (block_of s)
+  parts-block : RightCheck x → Amplifier block → payload_says s ≡ Ok (block_of s)
   unfolding payload_says
   parts-block right a = rw (parts-measured, right-checked right, amplifier-is a)
 
-  parts-say : RightCheck x → (a : Amplifier block) (o : Offsets) → SaysOffsets a o → payload_says s ≡ Says (says o)
-  parts-say right a o z = parts-block right a ∙ ap Says (block-says a o z)
+  parts-say : RightCheck x → (a : Amplifier block) (o : Offsets) → SaysOffsets a o → payload_says s ≡ Ok (says o)
+  parts-say right a o z = parts-block right a ∙ ap Ok (block-says a o z)
 
 -- ---- a payload that is measured
 
@@ -216,18 +215,18 @@ measured-parts (n ∷ l) q =
       four = omega (arith, length-drop (high * 256 + low) tail);
     }
 
-unmeasured-wrong : (s : List ℕ) → (Parts s → ⊥) → payload_says s ≡ Wrong 18
+unmeasured-wrong : (s : List ℕ) → (Parts s → ⊥) → payload_says s ≡ Err 18
 unfolding payload_says measured
 unmeasured-wrong s none = rw (ne_eqb (length s) (1 + serial_length s + 2 + block_length s + 4) (λ q. none (measured-parts s q)))
 
 -- ---- what is taken
 
 taken-fits : (b : Block) (s buffer : List ℕ) → length s ≤ length buffer →
-    taking (Says b) s buffer ≡ record { answer = Tells (length s) b; memory = s ++ drop (length s) buffer }
+    taking (Ok b) s buffer ≡ record { answer = Ok ((length s), b); memory = s ++ drop (length s) buffer }
 taken-fits b s buffer le = rw (le-leb (length s) (length buffer) le)
 
 pub payload-rule : (s buffer : List ℕ) (t : Taking) → t ≡ taking (payload_says s) s buffer →
-    PayloadRule (told_vended t.answer) (λ b. t.answer ≡ Tells (length s) b) t.memory s buffer
+    PayloadRule (told_vended t.answer) (λ b. t.answer ≡ Ok ((length s), b)) t.memory s buffer
 payload-rule s buffer t q =
     record {
       unmeasured = λ none. rw (q, unmeasured-wrong s none);
@@ -235,7 +234,7 @@ payload-rule s buffer t q =
       no_amplifier = λ x right other. rw (q, parts-other x right other);
       too_short = λ x right a lt. rw (q, parts-block x right a, lt-leb (length s) (length buffer) lt);
       given = λ x right a o z le.
-          let is : t ≡ record { answer = Tells (length s) (says x o); memory = s ++ drop (length s) buffer }
+          let is : t ≡ record { answer = Ok ((length s), (says x o)); memory = s ++ drop (length s) buffer }
           = q ∙ ap (λ (y : Said). taking y s buffer) (parts-say x right a o z) ∙ taken-fits (says x o) s buffer le in
           (ap (λ (y : Taking). y.answer) is, ap (λ (y : Taking). y.memory) is);
     }

@@ -9,12 +9,12 @@ use lib.ListN.{length, take, drop}
 use lib.Seq.{take-append_seam}
 use lib.Dec.{leb, eqb}
 use borrow.Author.Tests.{leb-true, le-leb, eqb-true, eqb-false}
+use Rattle.std.specs.Prelude.{Ok, Err}
 use Rattle.layout.specs.Bytes.{all, refusal}
 use Rattle.layout.specs.Walk.{Content}
 use Rattle.layout.specs.Read.{limit}
 use Rattle.layout.specs.Calls.{check_image}
-use Rattle.blocks.specs.declared.Said.{Said}
-use Rattle.blocks.specs.declared.Said.TheVariants.{Says, Wrong}
+use Rattle.blocks.specs.Answers.{Said}
 use Rattle.blocks.specs.Payload.{payload_says}
 use Rattle.blocks.specs.Vendor.{Taking, untaken, taking, read_vendor, told_vended}
 use Rattle.promises.specs.Words.{Reads}
@@ -75,10 +75,10 @@ room-alike true s buffer₁ buffer₂ le₁ le₂ = go (payload_says s) (said-lo
   where
     go : (x : Said) → SaidLow (length s) x → ((taking x s buffer₁).answer ≡ (taking x s buffer₂).answer)
         × ((told_vended (taking x s buffer₁).answer).number ≡ 0 → take (length s) (taking x s buffer₁).memory ≡ take (length s) (taking x s buffer₂).memory)
-    go (Says b) l =
+    go (Ok b) l =
         rw (le-leb (length s) (length buffer₁) le₁, le-leb (length s) (length buffer₂) le₂)
         (refl, λ _. take-append_seam s (drop (length s) buffer₁) ∙ sym (take-append_seam s (drop (length s) buffer₂)))
-    go (Wrong n) l = (refl, λ z. absurd (let some = leb-true 1 n (every (leb 1) read_numbers n refl l) in omega arith))
+    go (Err n) l = (refl, λ z. absurd (let some = leb-true 1 n (every (leb 1) read_numbers n refl l) in omega arith))
 room-alike false s buffer₁ buffer₂ le₁ le₂ = (refl, λ z. absurd (omega arith))
 
 pub same-payload : SamePayload

@@ -8,8 +8,8 @@ use native.Mathlib.Omega.{arith}
 use lib.ListN.{length, get_or, drop}
 use lib.Dec.{ltb, leb, eqb}
 use borrow.Author.Tests.{leb-true, eqb-true}
-use Rattle.layout.specs.declared.Chosen.{Chosen}
-use Rattle.layout.specs.declared.Chosen.TheVariants.{Known, Unknown}
+use Rattle.std.specs.Prelude.{Ok, Err}
+use Rattle.layout.specs.Answers.{Chosen}
 use Rattle.layout.specs.Bytes.{one_of, refusal}
 use Rattle.layout.specs.Editions.{chosen}
 use Rattle.layout.specs.Walk.{Content, content}
@@ -18,10 +18,7 @@ use Rattle.layout.specs.Write.{Outcome, refuse, put_bytes, told_made}
 use Rattle.layout.proofs.Choices.{either}
 use Rattle.blocks.specs.declared.Offsets.{Offsets}
 use Rattle.blocks.specs.declared.Block.{Block}
-use Rattle.blocks.specs.declared.Said.{Said}
-use Rattle.blocks.specs.declared.Said.TheVariants.{Says, Wrong}
-use Rattle.blocks.specs.declared.Vended.{Vended}
-use Rattle.blocks.specs.declared.Vended.TheVariants.{Tells, Unread}
+use Rattle.blocks.specs.Answers.{Said, Vended}
 use Rattle.blocks.specs.Offset.{signed}
 use Rattle.blocks.specs.Payload.{matching, joined, serial_length, block_length, block_place, block_of, measured, checked, amplifier, payload_says, payload_of, cut_into, writable}
 use Rattle.blocks.specs.Vendor.{ask_chosen, asked, Taking, untaken, taking, take_matching, take_read, take_asked, read_vendor, told_vended, put_asked, write_vendor}
@@ -48,8 +45,8 @@ unfolding asked
 asked-number numbers sixteen one two f e lent = either (ChosenNumber numbers) (eqb f 4) (λ _. go (chosen f e) (chosen-number numbers sixteen one f e)) (λ _. sixteen)
   where
     go : (x : Chosen) → ChosenNumber numbers x → ChosenNumber numbers (ask_chosen x lent)
-    go (Known g) l = either (ChosenNumber numbers) (ltb limit lent) (λ _. two) (λ _. tt)
-    go (Unknown n) l = l
+    go (Ok g) l = either (ChosenNumber numbers) (ltb limit lent) (λ _. two) (λ _. tt)
+    go (Err n) l = l
 
 -- ---- read
 
@@ -69,8 +66,8 @@ block_in s q =
 
 -- a payload of n bytes is refused by a number of a read, or says a block inside it
 abbrev pub SaidLow : ℕ → Said → Type 0
-SaidLow n (Says b) = BlockIn n b
-SaidLow n (Wrong number) = one_of read_numbers number ≡ true
+SaidLow n (Ok b) = BlockIn n b
+SaidLow n (Err number) = one_of read_numbers number ≡ true
 
 pub said-low : (s : List ℕ) → SaidLow (length s) (payload_says s)
 unfolding payload_says one_of
@@ -81,12 +78,12 @@ said-low s =
 
 -- a read is refused by one of its numbers at a place that is not beyond an image's farthest, or tells of a block in a payload that is no longer than an image may be
 abbrev pub VendedLow : Vended → Type 0
-VendedLow (Tells n b) = (n ≤ limit) × BlockIn n b
-VendedLow (Unread r) = Low read_numbers farthest r.number r.place.0
+VendedLow (Ok (n, b)) = (n ≤ limit) × BlockIn n b
+VendedLow (Err r) = Low read_numbers farthest r.number r.place.0
 
 vended-gives : (x : Vended) → VendedLow x → Gives read_numbers (told_vended x)
-vended-gives (Tells n b) l = taken
-vended-gives (Unread r) l = refusedBy l.number
+vended-gives (Ok (n, b)) l = taken
+vended-gives (Err r) l = refusedBy l.number
 
 -- where it is refused the buffer is as it was
 record ReadLeaves (buffer : List ℕ) (t : Taking) : Type 0 where
@@ -101,11 +98,11 @@ read-leaves f e image buffer = choose (asked f e (length buffer)) refl (asked-nu
     unread n h = record { low = record { number = h; place = omega arith }; same = λ _. refl }
 
     takes : (x : Said) (payload : List ℕ) → length buffer ≤ limit → SaidLow (length payload) x → ReadLeaves buffer (taking x payload buffer)
-    takes (Says b) payload le l =
+    takes (Ok b) payload le l =
         either (ReadLeaves buffer) (leb (length payload) (length buffer))
         (λ t. let fits = leb-true (length payload) (length buffer) t in record { low = (omega arith, l); same = λ h. absurd (h refl) })
         (λ _. unread 12 refl)
-    takes (Wrong n) payload le l = unread n l
+    takes (Err n) payload le l = unread n l
 
     matched : (cs : List Content) → length buffer ≤ limit → ReadLeaves buffer (take_matching cs buffer)
     matched [] le = unread 17 refl
@@ -116,8 +113,8 @@ read-leaves f e image buffer = choose (asked f e (length buffer)) refl (asked-nu
     reads (refused r) q le = record { low = wider (wider (wider (wider (wider (refused-low f e image r q))))); same = λ _. refl }
 
     choose : (x : Chosen) → asked f e (length buffer) ≡ x → ChosenNumber read_numbers x → ReadLeaves buffer (take_asked x f e image buffer)
-    choose (Known g) q l = reads (read_image f e image) refl (asked-short f e (length buffer) g q)
-    choose (Unknown n) q l = unread n l
+    choose (Ok g) q l = reads (read_image f e image) refl (asked-short f e (length buffer) g q)
+    choose (Err n) q l = unread n l
 
 pub read_low : (f e : ℕ) (image buffer : List ℕ) → VendedLow (read_vendor f e image buffer).answer
 read_low f e image buffer = (read-leaves f e image buffer).low
@@ -143,9 +140,9 @@ write-leaves f e serial o pieces out = choose (asked f e (length out)) refl (ask
         (λ _. unwritten 12 refl)
 
     choose : (x : Chosen) → asked f e (length out) ≡ x → ChosenNumber write_numbers x → WriteLeaves out (put_asked x serial o pieces out)
-    choose (Known g) q l =
+    choose (Ok g) q l =
         either (WriteLeaves out) (writable serial pieces) (λ _. puts (cut_into pieces (payload_of serial o)) (asked-short f e (length out) g q)) (λ _. unwritten 18 refl)
-    choose (Unknown n) q l = unwritten n l
+    choose (Err n) q l = unwritten n l
 
 pub write_low : (f e : ℕ) (serial : List ℕ) (o : Offsets) (pieces out : List ℕ) → MadeLow write_numbers farthest (write_vendor f e serial o pieces out).answer
 write_low f e serial o pieces out = (write-leaves f e serial o pieces out).low

@@ -6,11 +6,11 @@ use mathlib.Core.List.{List, [], ◌∷◌}
 use native.Mathlib.Omega.{arith}
 use lib.ListN.{length, take, drop}
 use lib.Seq.{take_at, take-append_seam, drop-append_seam}
+use Rattle.std.specs.Prelude.{Ok}
 use Rattle.layout.specs.Bytes.{part, part_at}
 use Rattle.layout.specs.Walk.{Content}
 use Rattle.layout.specs.Read.{limit}
 use Rattle.blocks.specs.declared.Offsets.{Offsets}
-use Rattle.blocks.specs.declared.Vended.TheVariants.{Tells}
 use Rattle.blocks.specs.Vendor.{read_vendor, write_vendor}
 use Rattle.promises.specs.Words.{Reads}
 use Rattle.promises.specs.Payload.{PiecesOf, whole, Some, Parts, RightCheck, Amplifier, SaysOffsets}
@@ -40,7 +40,7 @@ some-whole (piece ∷ pieces) lt = tt
 reads-back : (e : ℕ) (image buffer : List ℕ) (cs : List Content) (pieces : List (List ℕ)) (o : Offsets) → Reads 4 e image cs → PiecesOf cs pieces →
     (x : Parts (whole pieces)) → RightCheck x → (a : Amplifier x.block) → SaysOffsets a o → 16 + length x.serial ≤ length buffer → length buffer ≤ limit →
     ((read_vendor 4 e image buffer).answer
-    ≡ Tells (16 + length x.serial) (record { serial = part_at 1 (length x.serial); block = part_at (1 + length x.serial + 2) 9; offsets = o }))
+    ≡ Ok ((16 + length x.serial), (record { serial = part_at 1 (length x.serial); block = part_at (1 + length x.serial + 2) 9; offsets = o })))
     × (part 1 (length x.serial) (read_vendor 4 e image buffer).memory ≡ x.serial)
 reads-back e image buffer cs pieces o r ps x right a z fits le =
     let nine : length x.block ≡ 9 = ap length a.is in

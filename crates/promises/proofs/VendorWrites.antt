@@ -9,11 +9,11 @@ use lib.ListN.{length, take, drop, length-drop, take-append-drop}
 use lib.Seq.{length-take-le}
 use lib.Dec.{leb, eqb}
 use borrow.Author.Tests.{leb-true, le-leb, lt-leb, eqb-true, eq-eqb}
+use Rattle.std.specs.Prelude.{Ok, Err}
 use Rattle.crc.specs.Crc.{check32_of}
 use Rattle.layout.specs.declared.Format.{Format}
 use Rattle.layout.specs.declared.Format.TheVariants.{Onie}
-use Rattle.layout.specs.declared.Chosen.{Chosen}
-use Rattle.layout.specs.declared.Chosen.TheVariants.{Known, Unknown}
+use Rattle.layout.specs.Answers.{Chosen}
 use Rattle.layout.specs.Bytes.{if, all, one_of, refusal}
 use Rattle.layout.specs.Onie.{four_bytes}
 use Rattle.layout.specs.Read.{limit}
@@ -81,7 +81,7 @@ fitting-writable serial lengths x =
 -- ---- a write that is asked for
 
 module _ (e : ℕ) (serial : List ℕ) (o : Offsets) (lengths out : List ℕ) (s : Serves 4 e Onie) (le : length out ≤ limit) where
-  asks : write_vendor 4 e serial o lengths out ≡ put_asked (Known Onie) serial o lengths out
+  asks : write_vendor 4 e serial o lengths out ≡ put_asked (Ok Onie) serial o lengths out
   asks = write-asked 4 e serial o lengths out Onie (short-asked e (length out) Onie (serves-chosen s) le)
 
   unfitting : (Fitting serial lengths → ⊥) → Refuses (tells_vendor_write 4 e serial o lengths out) 18 0
@@ -116,7 +116,7 @@ write_done f e serial o lengths out n q = choose (asked f e (length out)) refl (
     never : {A : Type 0} (m : ℕ) → 1 ≤ m → Counts (told_made (refuse (refusal m 0) out).answer) n → A
     never m some q = let z : m ≡ 0 = ap (λ (t : Told). t.number) q in absurd (omega arith)
 
-    puts : (g : Format) (b : Bool) → asked f e (length out) ≡ Known g → writable serial lengths ≡ true → leb (length values) (length out) ≡ b →
+    puts : (g : Format) (b : Bool) → asked f e (length out) ≡ Ok g → writable serial lengths ≡ true → leb (length values) (length out) ≡ b →
         Counts (told_made (put_bytes values out).answer) n → Done f e serial o lengths out n
     puts g true k w l q =
         record {
@@ -127,14 +127,14 @@ write_done f e serial o lengths out n q = choose (asked f e (length out)) refl (
         }
     puts g false k w l q = never 12 (omega arith) (rw l at q)
 
-    writes : (g : Format) (b : Bool) → asked f e (length out) ≡ Known g → writable serial lengths ≡ b →
+    writes : (g : Format) (b : Bool) → asked f e (length out) ≡ Ok g → writable serial lengths ≡ b →
         Counts (told_made (if {A = Outcome} b (λ _. put_bytes values out) (λ _. refuse (refusal 18 0) out)).answer) n → Done f e serial o lengths out n
     writes g true k w q = puts g (leb (length values) (length out)) k w refl q
     writes g false k w q = never 18 (omega arith) q
 
     choose : (x : Chosen) → asked f e (length out) ≡ x → ChosenNumber write_numbers x → Counts (told_made (put_asked x serial o lengths out).answer) n → Done f e serial o lengths out n
-    choose (Known g) k l q = writes g (writable serial lengths) k refl q
-    choose (Unknown m) k l q = never m (leb-true 1 m (every (leb 1) write_numbers m refl l)) q
+    choose (Ok g) k l q = writes g (writable serial lengths) k refl q
+    choose (Err m) k l q = never m (leb-true 1 m (every (leb 1) write_numbers m refl l)) q
 
 -- ---- what it puts out
 

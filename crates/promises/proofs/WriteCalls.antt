@@ -8,12 +8,10 @@ use native.Mathlib.Omega.{arith}
 use lib.ListN.{length, length-append}
 use lib.Dec.{ltb, leb}
 use borrow.Author.Tests.{ltb-false, leb-true}
+use Rattle.std.specs.Prelude.{Ok, Err}
 use Rattle.layout.specs.declared.Format.{Format}
-use Rattle.layout.specs.declared.Chosen.{Chosen}
-use Rattle.layout.specs.declared.Chosen.TheVariants.{Known, Unknown}
+use Rattle.layout.specs.Answers.{Chosen, Made}
 use Rattle.layout.specs.declared.Field.{Field}
-use Rattle.layout.specs.declared.Made.{Made}
-use Rattle.layout.specs.declared.Made.TheVariants.{Wrote, Unwritten}
 use Rattle.layout.specs.Bytes.{one_of}
 use Rattle.layout.specs.Shape.{Shape, Label, Judged, fine, faulty}
 use Rattle.layout.specs.Editions.{shape, chosen, names}
@@ -37,8 +35,8 @@ use Rattle.promises.proofs.Entries.{ends-in}
 
 -- an image that is made is short, and a refusal is low
 abbrev pub MadeLow : List ℕ → ℕ → Made → Type 0
-MadeLow numbers most (Wrote n) = n ≤ limit
-MadeLow numbers most (Unwritten r) = Low numbers most r.number r.place.0
+MadeLow numbers most (Ok n) = n ≤ limit
+MadeLow numbers most (Err r) = Low numbers most r.number r.place.0
 
 abbrev OutcomeLow : List ℕ → ℕ → Outcome → Type 0
 OutcomeLow numbers most o = MadeLow numbers most o.answer
@@ -113,13 +111,13 @@ changed-low x asks f e img out = choose (chosen f e) (chosen-number change_numbe
     reads g (refused r) short fits q l = wider (wider (wider l))
 
     choose : (y : Chosen) → ChosenNumber change_numbers y → OutcomeLow change_numbers farthest (change_chosen y x e img out)
-    choose (Known g) l =
+    choose (Ok g) l =
         either (OutcomeLow change_numbers farthest) (ltb limit (length img) || ltb limit (length out)) (λ _. record { number = refl; place = omega arith })
         (λ t.
         let n = neither (ltb limit (length img)) (ltb limit (length out)) t in
         let short = ltb-false limit (length img) n.0 in
         reads g (read_as g e img) short (ltb-false limit (length out) n.1) refl (read_low g e img short))
-    choose (Unknown n) l = record { number = l; place = omega arith }
+    choose (Err n) l = record { number = l; place = omega arith }
 
 pub edited-low : (f e : ℕ) (image : List ℕ) (i : ℕ) (v out : List ℕ) → MadeLow change_numbers farthest (edit_entry f e image i v out).answer
 edited-low f e image i v out = changed-low (edit i v) (edit-asks i v) f e image out
@@ -165,8 +163,8 @@ written_low f e xs values out = choose (chosen f e) (chosen-number write_numbers
     judged S cs (faulty n p) short l = l
 
     choose : (x : Chosen) → ChosenNumber write_numbers x → OutcomeLow write_numbers (length xs) (write_chosen x e xs values out)
-    choose (Known g) l =
+    choose (Ok g) l =
         either (OutcomeLow write_numbers (length xs)) (ltb limit (length out)) (λ _. record { number = refl; place = omega arith })
         (λ t. judged (shape g) (contents_of (shape g) values xs) (judge_fields (shape g) e values false [] xs 0) (ltb-false limit (length out) t)
         (fields-low (length xs) (shape g) e values false [] xs 0 (omega arith)))
-    choose (Unknown n) l = record { number = l; place = omega arith }
+    choose (Err n) l = record { number = l; place = omega arith }

@@ -8,11 +8,10 @@ use native.Mathlib.Omega.{arith}
 use lib.ListN.{length}
 use lib.Dec.{eqb}
 use borrow.Author.Tests.{leb-true, le-leb, le-ltb, eqb-true, eq-eqb, ne_eqb}
+use Rattle.std.specs.Prelude.{Ok}
 use Rattle.layout.specs.declared.Format.{Format}
 use Rattle.layout.specs.declared.Format.TheVariants.{Fboss, Vpd, Tiny, Onie}
 use Rattle.layout.specs.declared.Field.{Field}
-use Rattle.layout.specs.declared.Chosen.TheVariants.{Known}
-use Rattle.layout.specs.declared.Made.TheVariants.{Wrote}
 use Rattle.layout.specs.Shape.{Shape, fine}
 use Rattle.layout.specs.Fboss.{fboss}
 use Rattle.layout.specs.Vpd.{vpd, vpd_twice}
@@ -146,11 +145,11 @@ made-size : (g : Format) (cs : List Content) → length (image_of (shape g) (ent
 made-size g cs = omega (arith, image-size g (entries_bytes (shape g) cs), entries-size g cs)
 
 module _ (f e : ℕ) (xs : List Field) (values out : List ℕ) where
-  contents-said : (g : Format) → chosen f e ≡ Known g → contents_of (shape g) values xs ≡ map (field_says f values) xs
+  contents-said : (g : Format) → chosen f e ≡ Ok g → contents_of (shape g) values xs ≡ map (field_says f values) xs
   contents-said g known = fields-said f g values xs (chosen-stands f e g known).0
 
   -- fields that are judged fine and complete are put
-  write-puts : (g : Format) → chosen f e ≡ Known g → length out ≤ limit → judge_fields (shape g) e values false [] xs 0 ≡ fine →
+  write-puts : (g : Format) → chosen f e ≡ Ok g → length out ≤ limit → judge_fields (shape g) e values false [] xs 0 ≡ fine →
       complete (shape g).required (content_codes (contents_of (shape g) values xs)) ≡ true →
       write_image f e xs values out ≡ put (shape g) (image_of (shape g) (entries_bytes (shape g) (contents_of (shape g) values xs))) out
   unfolding write_image write_as
@@ -174,7 +173,7 @@ module _ (f e : ℕ) (xs : List Field) (values out : List ℕ) where
         filled = d.took.padding;
       }
 
-  done-writable : (n : ℕ) → (write_image f e xs values out).answer ≡ Wrote n → Done f e xs values out n → Writable f e xs values out
+  done-writable : (n : ℕ) → (write_image f e xs values out).answer ≡ Ok n → Done f e xs values out n → Writable f e xs values out
   done-writable n q d =
       let g = d.format in
       let S : Shape = shape g in
@@ -203,7 +202,7 @@ module _ (f e : ℕ) (xs : List Field) (values out : List ℕ) where
       let g = w.format in
       let S : Shape = shape g in
       let cs : List Content = contents_of S values xs in
-      let known : chosen f e ≡ Known g = serves-chosen w.serves in
+      let known : chosen f e ≡ Ok g = serves-chosen w.serves in
       let said = contents-said g known in
       let fine : Fine S e values false [] xs =
       record {

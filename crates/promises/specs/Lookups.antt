@@ -3,7 +3,7 @@
 use Rattle.std.specs.Prelude.{ℕ, zero, suc, ◌+◌, ◌-◌, ◌≤◌, ◌<◌, ◌≡◌, List, [], ◌∷◌, ◌++◌, map, length, take, replicate}
 use Rattle.layout.specs.declared.Entry.{Entry}
 use Rattle.layout.specs.declared.Field.{Field}
-use Rattle.layout.specs.declared.Located.{Located}
+use Rattle.layout.specs.Answers.{Located}
 use Rattle.layout.specs.Bytes.{part_at, refusal}
 use Rattle.layout.specs.Read.{limit}
 use Rattle.layout.specs.Calls.{Told, told, told_refusal, told_lookup, told_located, bytes_at, verdict, value_at, string_at, step_from}

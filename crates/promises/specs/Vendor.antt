@@ -1,7 +1,7 @@
 -- Vendor blocks (02, "Vendor blocks for the optics lab"): what a read gives and what it is refused by, that a payload reads the same however it is cut, what a write puts out and what it is refused by, and that what was
 -- written reads back.
 -- Assumes nothing.
-use Rattle.std.specs.Prelude.{ℕ, ◌+◌, ◌*◌, ◌≤◌, ◌<◌, ◌≡◌, List, [], ◌∷◌, ◌++◌, ◌⊎◌, length, take, drop, ℤ}
+use Rattle.std.specs.Prelude.{ℕ, ◌+◌, ◌*◌, ◌≤◌, ◌<◌, ◌≡◌, List, [], ◌∷◌, ◌++◌, ◌⊎◌, length, take, drop, ℤ, Ok}
 use Rattle.layout.specs.declared.Format.TheVariants.{Onie}
 use Rattle.layout.specs.Bytes.{part, part_at}
 use Rattle.layout.specs.Walk.{Content}
@@ -10,7 +10,6 @@ use Rattle.layout.specs.Write.{told_made}
 use Rattle.layout.specs.Each.{Each}
 use Rattle.blocks.specs.declared.Offsets.{Offsets}
 use Rattle.blocks.specs.declared.Block.{Block}
-use Rattle.blocks.specs.declared.Vended.TheVariants.{Tells}
 use Rattle.blocks.specs.Offset.{signed, signed_byte}
 use Rattle.blocks.specs.Vendor.{read_vendor, told_vended, write_vendor}
 use Rattle.promises.specs.Words.{KnownEdition, Serves, Counts, Refuses, IsRefused, Reads, tells_check}
@@ -65,7 +64,7 @@ pub record PayloadRule (t : Told) (answer : Block → Type 0) (memory : List ℕ
 pub record VendorRule (e : ℕ) (image buffer : List ℕ) (cs : List Content) : Type 0 where
   pub none : PiecesOf cs [] → Refuses (tells_vendor 4 e image buffer) 17 0
   pub some : (pieces : List (List ℕ)) → Some pieces → PiecesOf cs pieces →
-      PayloadRule (tells_vendor 4 e image buffer) (λ b. (read_vendor 4 e image buffer).answer ≡ Tells (length (whole pieces)) b) (read_vendor 4 e image buffer).memory (whole pieces) buffer
+      PayloadRule (tells_vendor 4 e image buffer) (λ b. (read_vendor 4 e image buffer).answer ≡ Ok ((length (whole pieces)), b)) (read_vendor 4 e image buffer).memory (whole pieces) buffer
 
 pub record VendorReads : Type 0 where
   -- an image that the check refuses is refused alike
@@ -136,7 +135,7 @@ VendorRoundTrip =
     Values lengths pieces (take n (write_vendor f e serial o lengths out).memory) →
     16 + length serial ≤ length buffer → length buffer ≤ 65536 →
     ((read_vendor f e' image buffer).answer
-    ≡ Tells (16 + length serial) (record { serial = part_at 1 (length serial); block = part_at (1 + length serial + 2) 9; offsets = o }))
+    ≡ Ok ((16 + length serial), (record { serial = part_at 1 (length serial); block = part_at (1 + length serial + 2) 9; offsets = o })))
     × (part 1 (length serial) (read_vendor f e' image buffer).memory ≡ serial)
 
 -- ---- refused

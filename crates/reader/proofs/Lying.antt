@@ -1,16 +1,15 @@
 -- A frame that is read lies in the image, and the bytes of its value are those at its record's place.
 -- Assumes nothing.
 use Prim.Native.Nat.{ℕ, ◌+◌, ◌-◌, ◌≤◌, ◌<◌}
-use mathlib.Core.Path.{◌≡◌, sym, ◌∙◌}
+use mathlib.Core.Path.{◌≡◌, sym}
 use mathlib.Core.List.{List}
 use mathlib.Core.Bool.{Bool}
 use native.Mathlib.Omega.{arith}
 use lib.ListN.{length, take, drop}
 use lib.Seq.{take-take}
+use Rattle.std.specs.Prelude.{Ok, Some}
 use Rattle.layout.specs.declared.Format.{Format}
 use Rattle.layout.specs.declared.Frame.{Frame}
-use Rattle.layout.specs.declared.Next.{Next}
-use Rattle.layout.specs.declared.Next.TheVariants.{Framed}
 use Rattle.layout.specs.Bytes.{part}
 use Rattle.layout.specs.Shape.{next}
 use Rattle.layout.specs.Editions.{shape}
@@ -47,7 +46,7 @@ pub record Framing (image : List ℕ) (p end : ℕ) (f : Frame) : Type 0 where
   pub bound : p + f.size ≤ end
   pub is : take f.size (part p (end - p) image) ≡ part p f.size image
 
-pub framed-lies : (g : Format) (shut : Bool) (image : List ℕ) (p end : ℕ) (f : Frame) → next (shape g) shut (part p (end - p) image) ≡ Framed f → Framing image p end f
+pub framed-lies : (g : Format) (shut : Bool) (image : List ℕ) (p end : ℕ) (f : Frame) → next (shape g) shut (part p (end - p) image) ≡ Ok (Some f) → Framing image p end f
 unfolding part
 framed-lies g shut image p end f q =
     let s = take (end - p) (drop p image) in
@@ -59,7 +58,3 @@ framed-lies g shut image p end f q =
       bound = i.2;
       is = take-take f.size (end - p) (drop p image) (omega (arith, i.2));
     }
-
--- the same of what a call read
-pub read-lies : (g : Format) (shut : Bool) (image : List ℕ) (p end : ℕ) (f : Frame) {x : Next} → x ≡ next (shape g) shut (part p (end - p) image) → x ≡ Framed f → Framing image p end f
-read-lies g shut image p end f is q = framed-lies g shut image p end f (sym is ∙ q)

@@ -3,13 +3,12 @@
 use Prim.Native.Nat.{ℕ, zero, suc, ◌+◌, ◌≤◌, ◌<◌}
 use mathlib.Core.Path.{◌≡◌, refl, ap, sym, ◌∙◌}
 use mathlib.Core.List.{List, [], ◌∷◌, ◌++◌}
-use mathlib.Core.Bool.{Bool, false}
+use mathlib.Core.Bool.{Bool, true, false}
 use native.Mathlib.Omega.{arith}
 use lib.ListN.{length, length-append}
+use Rattle.std.specs.Result.{is_ok}
 use Rattle.layout.specs.declared.Format.{Format}
 use Rattle.layout.specs.declared.Format.TheVariants.{Tiny}
-use Rattle.layout.specs.declared.Entry.{Entry}
-use Rattle.layout.specs.declared.Lookup.TheVariants.{Found}
 use Rattle.layout.specs.Shape.{Shape}
 use Rattle.layout.specs.Tiny.{tiny}
 use Rattle.layout.specs.Editions.{shape}
@@ -40,23 +39,23 @@ flat-long {S} L b (r ∷ rs) fs =
     let rest = flat-long L (S.last r.frame.code) rs fs.2 in
     omega (arith, length-append r.bytes (flat rs))
 
-nth-below : (S : Shape) (e p : ℕ) (rs : List Raw) (n : ℕ) (x : Entry) → nth (entries_of S e p rs) n ≡ Found x → n < length rs
+nth-below : (S : Shape) (e p : ℕ) (rs : List Raw) (n : ℕ) → is_ok (nth (entries_of S e p rs) n) ≡ true → n < length rs
 unfolding nth entries_of
-nth-below S e p [] n x q = let z : ◌≡◌ {A = ℕ} 0 1 = cc in absurd (omega arith)
-nth-below S e p (r ∷ rs) zero x q = omega arith
-nth-below S e p (r ∷ rs) (suc n) x q = let i = nth-below S e (p + r.frame.size) rs n x q in omega arith
+nth-below S e p [] n q = cc
+nth-below S e p (r ∷ rs) zero q = omega arith
+nth-below S e p (r ∷ rs) (suc n) q = let i = nth-below S e (p + r.frame.size) rs n q in omega arith
 
-pub found_below : (f e : ℕ) (image : List ℕ) (n : ℕ) (x : Entry) → entry_at f e image n ≡ Found x → n < limit
+pub found_below : (f e : ℕ) (image : List ℕ) (n : ℕ) → is_ok (entry_at f e image n) ≡ true → n < limit
 unfolding entry_at
-found_below f e image n x q = go (read_image f e image) refl q
+found_below f e image n q = go (read_image f e image) refl q
   where
-    go : (y : Read) → read_image f e image ≡ y → found_by y e n ≡ Found x → n < limit
-    go (refused r) y q = let z : ◌≡◌ {A = ℕ} 0 1 = cc in absurd (omega arith)
+    go : (y : Read) → read_image f e image ≡ y → is_ok (found_by y e n) ≡ true → n < limit
+    go (refused r) y q = cc
     go (accepted g start rs) y q =
         let m = accepted-reading f e image g start rs y in
         let S = shape g in
         let H = S.header (length (flat rs)) in
         let z = m.made.closing ++ (S.check (H ++ flat rs) ++ m.made.rest) in
-        let below = nth-below S e start rs n x q in
+        let below = nth-below S e start rs n q in
         let long = flat-long (laws g) false rs m.made.frames in
         omega (arith, ap length m.made.is, length-append H (flat rs ++ z), length-append (flat rs) z, m.short)

@@ -7,8 +7,8 @@ use native.Mathlib.Omega.{arith}
 use native.Mathlib.Numerals.{add-one}
 use lib.ListN.{length, get_or, drop, drop_of_length-le}
 use lib.Seq.{drop-cons}
-use Rattle.layout.specs.declared.Located.{Located}
-use Rattle.layout.specs.declared.Located.TheVariants.{At}
+use Rattle.std.specs.Prelude.{Ok}
+use Rattle.layout.specs.Answers.{Located}
 use Rattle.layout.specs.Bytes.{part_at}
 use Rattle.layout.specs.Calls.{no_string, string_in}
 use Rattle.laws.proofs.Strings.{goes, ends, passes}
@@ -27,11 +27,11 @@ module _ (pool : List ℕ) (place first i left : ℕ) (le : first ≤ i) where
       ∙ goes (get_or pool i 0) (drop (i + 1) pool) (place + first) (i - first) left low
       ∙ ap (λ (n : ℕ). string_in (drop (i + 1) pool) (place + first) n left) (let q : i - first + 1 ≡ i + 1 - first = omega arith in q)
 
-  pub string-ends : i < length pool → 128 ≤ get_or pool i 0 → left ≡ 0 → string_from pool place first i left ≡ At (part_at (place + first) (i + 1 - first))
+  pub string-ends : i < length pool → 128 ≤ get_or pool i 0 → left ≡ 0 → string_from pool place first i left ≡ Ok (part_at (place + first) (i + 1 - first))
   string-ends lt high z =
       ap (λ (bs : List ℕ). string_in bs (place + first) (i - first) left) (at_byte lt)
       ∙ ends (get_or pool i 0) (drop (i + 1) pool) (place + first) (i - first) left high z
-      ∙ ap (λ (n : ℕ). At (part_at (place + first) n)) (let q : i - first + 1 ≡ i + 1 - first = omega arith in q)
+      ∙ ap (λ (n : ℕ). Ok (part_at (place + first) n)) (let q : i - first + 1 ≡ i + 1 - first = omega arith in q)
 
   pub string-passes : i < length pool → 128 ≤ get_or pool i 0 → 0 < left → string_from pool place first i left ≡ string_from pool place (i + 1) (i + 1) (left - 1)
   string-passes lt high some =

@@ -10,12 +10,7 @@ ghost use Rattle.laws.specs.Passes.{walked, IsDone, raws_in};
 ghost use Rattle.reader.specs.Here.{here_at};
 ghost use Rattle.reader.specs.Walk.{step_walk};
 
-use accept::Taken;
-use frames::Spot;
-use layout::{
-    Checked, Entry, Format, Frame, Located, Lookup, Next, Part, Place, Reading, Refusal,
-    StringNumber,
-};
+use layout::{Entry, Format, Frame, Part, Place, Reading, Refusal, StringNumber};
 
 // An entry, the place after it, and whether none may follow it.
 #[derive(Clone, Copy)]
@@ -23,13 +18,6 @@ pub struct Standing {
     pub entry: Entry,
     pub next: usize,
     pub shut: bool,
-}
-
-// What stands at a place: an entry, or no more of them.
-#[derive(Clone, Copy)]
-pub enum Here {
-    Stands(Standing),
-    Over,
 }
 
 // 01's term "walk": it holds format, edition and entry number.
@@ -43,26 +31,8 @@ pub struct Walk {
 // The answer of a walk's step, with the walk that is handed back.
 #[derive(Clone, Copy)]
 pub struct Stepped {
-    pub answer: Lookup,
+    pub answer: Result<Entry, Refusal>,
     pub next: Walk,
-}
-
-fn refusal(number: u32) -> Refusal
-    ensures { result ≡ record { number = number; place = record { 0 = 0 } } }
-{
-    Refusal {
-        number: number,
-        place: Place(0),
-    }
-}
-
-fn part_at(place: usize, len: usize) -> Part
-    ensures { result ≡ record { place = record { 0 = place }; len = len } }
-{
-    Part {
-        place: Place(place),
-        len: len,
-    }
 }
 
 // Whether the edition is known.
@@ -73,26 +43,21 @@ pub fn is_edition(edition: u32) -> bool
 }
 
 // The number of entries, or the refusal.
-pub fn check_image(format: u32, edition: u32, image: &[u8]) -> Checked
+pub fn check_image(format: u32, edition: u32, image: &[u8]) -> Result<usize, Refusal>
     ensures { result ≡ check_image format edition image.now }
 {
-    let t = accept::take_image(format, edition, image);
-    match t {
-        Taken::Is(room) => Checked::Accepted(room.count),
-        Taken::Isnt(r) => Checked::Refused(r),
-    }
+    Ok(accept::take_image(format, edition, image)?.count)
 }
 
 // The part of a key in a record: without a key it has length 0 and stands at the value's place.
+#[tactic(auto, unfolding(layout::specs::Fboss::fboss, layout::specs::Vpd::vpd, layout::specs::Tiny::tiny, layout::specs::Onie::onie))]
 fn key_part(format: Format, p: usize, f: Frame) -> Part
     requires { (f.key ≤ f.val) × (p + f.val < 18446744073709551616) }
     ensures { (bs : List ℕ) → result ≡ key_part (shape format).keyed p (record { bytes = bs; frame = f }) }
 {
     match format {
-        Format::Fboss => part_at(p + f.val, 0),
-        Format::Vpd => part_at(p + f.key, f.klen),
-        Format::Tiny => part_at(p + f.val, 0),
-        Format::Onie => part_at(p + f.val, 0),
+        Format::Vpd => Part::at(p + f.key, f.klen),
+        Format::Fboss | Format::Tiny | Format::Onie => Part::at(p + f.val, 0),
     }
 }
 
@@ -100,28 +65,27 @@ fn key_part(format: Format, p: usize, f: Frame) -> Part
 fn reading_at(format: Format, edition: u32, code: u32, image: &[u8], at: usize, n: usize) -> Reading
     ensures { result ≡ reading_by (shape format) edition code (part at n image.now) }
 {
-    if !frames::is_named(format, edition, code) {
-        return Reading::Plain;
+    if frames::is_named(format, edition, code) {
+        frames::reading_of(format, code, frames::part_of(image, at, n))
+    } else {
+        Reading::Plain
     }
-    frames::reading_of(format, code, frames::part_of(image, at, n))
 }
 
 // The record of the entry at p with this frame, kind and reading. Both are given, so that this function is small and is compiled as a part of its callers.
+#[tactic(auto, unfolding(layout::specs::Calls::entry_of))]
 fn entry_of(format: Format, p: usize, f: Frame, as_kind: u32, reading: Reading) -> Entry
     requires { (f.key ≤ f.val) × (p + f.val < 18446744073709551616) }
     ensures { (edition : ℕ) (bs : List ℕ) → as_kind ≡ kind (shape format) edition f.code → reading ≡ reading_by (shape format) edition f.code (content (record { bytes = bs; frame = f })).value → result ≡ entry_of (shape format) edition p (record { bytes = bs; frame = f }) }
 {
-    let code = f.code;
-    let key = key_part(format, p, f);
-    let value = part_at(p + f.val, f.vlen);
     Entry {
-        code: code,
+        code: f.code,
         kind: as_kind,
         place: Place(p),
         size: f.size,
-        key: key,
-        value: value,
-        reading: reading,
+        key: key_part(format, p, f),
+        value: Part::at(p + f.val, f.vlen),
+        reading,
     }
 }
 
@@ -133,24 +97,19 @@ pub fn entry_here(
     shut: bool,
     p: usize,
     end: usize,
-) -> Here
+) -> Option<Standing>
     ensures { result ≡ here_at (shape format) edition image.now shut p end }
 {
-    let x = frames::next_frame(format, shut, image, p, end);
-    match x {
-        Next::Framed(f) => {
-            let as_kind = frames::kind_of(format, edition, f.code);
-            let reading = reading_at(format, edition, f.code, image, p + f.val, f.vlen);
-            let entry = entry_of(format, p, f, as_kind, reading);
-            Here::Stands(Standing {
-                entry: entry,
-                next: p + f.size,
-                shut: frames::is_last(format, f.code),
-            })
-        }
-        Next::Ended => Here::Over,
-        Next::Broken(_) => Here::Over,
-    }
+    let Ok(Some(f)) = frames::next_frame(format, shut, image, p, end) else {
+        return None;
+    };
+    let as_kind = frames::kind_of(format, edition, f.code);
+    let reading = reading_at(format, edition, f.code, image, p + f.val, f.vlen);
+    Some(Standing {
+        entry: entry_of(format, p, f, as_kind, reading),
+        next: p + f.size,
+        shut: frames::is_last(format, f.code),
+    })
 }
 
 // Entry n of entries that begin at start.
@@ -161,70 +120,49 @@ fn nth_entry(
     start: usize,
     end: usize,
     n: usize,
-) -> Lookup
+) -> Result<Entry, Refusal>
     requires { IsDone (walked format image.now start end) }
     ensures { result ≡ nth (entries_of (shape format) edition start (raws_in (walked format image.now start end))) n }
 {
-    let s = frames::find_frame(format, image, start, end, n);
-    match s {
-        Spot::At(f, p) => {
-            let as_kind = frames::kind_of(format, edition, f.code);
-            let reading = reading_at(format, edition, f.code, image, p + f.val, f.vlen);
-            Lookup::Found(entry_of(format, p, f, as_kind, reading))
-        }
-        Spot::Nowhere => Lookup::Missing(refusal(13)),
-    }
+    let Some((f, p)) = frames::find_frame(format, image, start, end, n) else {
+        return Err(Refusal::from(13));
+    };
+    let as_kind = frames::kind_of(format, edition, f.code);
+    let reading = reading_at(format, edition, f.code, image, p + f.val, f.vlen);
+    Ok(entry_of(format, p, f, as_kind, reading))
 }
 
 // Entry n, counted from 0.
-pub fn entry_at(format: u32, edition: u32, image: &[u8], n: usize) -> Lookup
+pub fn entry_at(format: u32, edition: u32, image: &[u8], n: usize) -> Result<Entry, Refusal>
     ensures { result ≡ entry_at format edition image.now n }
 {
-    let t = accept::take_image(format, edition, image);
-    match t {
-        Taken::Isnt(r) => Lookup::Missing(r),
-        Taken::Is(room) => {
-            let g = room.format;
-            nth_entry(g, edition, image, room.start, room.end, n)
-        }
-    }
+    let room = accept::take_image(format, edition, image)?;
+    nth_entry(room.format, edition, image, room.start, room.end, n)
 }
 
 // Where the value of entry n stands.
-pub fn value_part(format: u32, edition: u32, image: &[u8], n: usize) -> Located
+#[tactic(auto, unfolding(layout::specs::Calls::value_at))]
+pub fn value_part(format: u32, edition: u32, image: &[u8], n: usize) -> Result<Part, Refusal>
     ensures { result ≡ value_at format edition image.now n }
 {
-    let x = entry_at(format, edition, image, n);
-    match x {
-        Lookup::Found(e) => {
-            let value = e.value;
-            Located::At(value)
-        }
-        Lookup::Missing(r) => Located::Nowhere(r),
-    }
+    Ok(entry_at(format, edition, image, n)?.value)
 }
 
 // The bytes of a part that was located.
-fn located_bytes(image: &[u8], x: Located) -> &[u8]
+fn located_bytes(image: &[u8], x: Result<Part, Refusal>) -> &[u8]
     ensures { result.now ≡ bytes_at image.now x }
 {
     match x {
-        Located::At(part) => {
-            let place = part.place;
-            frames::part_of(image, place.0, part.len)
-        }
-        Located::Nowhere(_) => &image[..0],
+        Ok(part) => frames::part_of(image, part.place.0, part.len),
+        Err(_) => &image[..0],
     }
 }
 
 // Number and place: 0 and 0 where nothing is refused.
-fn located_verdict(x: Located) -> Refusal
+fn located_verdict(x: Result<Part, Refusal>) -> Refusal
     ensures { result ≡ verdict x }
 {
-    match x {
-        Located::At(_) => refusal(0),
-        Located::Nowhere(r) => r,
-    }
+    x.err().unwrap_or(Refusal::from(0))
 }
 
 // The value of entry n, as a part of the image; empty where it is refused.
@@ -242,66 +180,61 @@ pub fn value_verdict(format: u32, edition: u32, image: &[u8], n: usize) -> Refus
 }
 
 // The string of this number in a pool whose bytes begin at `place` of the image.
-fn string_in(pool: &[u8], place: Place, number: StringNumber) -> Located
+fn string_in(pool: &[u8], place: Place, number: StringNumber) -> Result<Part, Refusal>
     requires { place.0 + length pool.now ≤ 65536 }
     ensures { result ≡ string_in pool.now place.0 0 number.0 }
 {
     let mut skip = number.0;
-    let mut first: usize = 0;
-    let mut i: usize = 0;
-    while i < pool.len() {
-        if 0x80 <= pool[i] {
+    let mut first = 0;
+    for (i, byte) in pool.iter().enumerate() {
+        if 0x80 <= *byte {
             if skip == 0 {
-                return Located::At(part_at(place.0 + first, i + 1 - first));
+                return Ok(Part::at(place.0 + first, i + 1 - first));
             }
             skip -= 1;
             first = i + 1;
         }
-        i += 1;
     }
-    Located::Nowhere(refusal(15))
+    Err(Refusal::from(15))
 }
 
 // The same in the pool of an image, whose entries begin at start.
-fn pool_string(image: &[u8], start: Place, end: Place, number: StringNumber) -> Located
+fn pool_string(
+    image: &[u8],
+    start: Place,
+    end: Place,
+    number: StringNumber,
+) -> Result<Part, Refusal>
     requires { (end.0 ≤ length image.now) × (length image.now ≤ 65536) × IsDone (walked Format.Tiny image.now start.0 end.0) }
     ensures { result ≡ pool_string start.0 (raws_in (walked Format.Tiny image.now start.0 end.0)) number.0 }
 {
     let mut p = start.0;
     let mut shut = false;
-    loop {
-        let x = frames::next_frame(Format::Tiny, shut, image, p, end.0);
-        match x {
-            Next::Framed(f) => {
-                if f.code == 1 {
-                    let at = p + f.val;
-                    return string_in(frames::part_of(image, at, f.vlen), Place(at), number);
-                }
-                shut = frames::is_last(Format::Tiny, f.code);
-                p += f.size;
-            }
-            Next::Ended => {
-                return Located::Nowhere(refusal(15));
-            }
-            Next::Broken(_) => {
-                return Located::Nowhere(refusal(15));
-            }
+    while let Ok(Some(f)) = frames::next_frame(Format::Tiny, shut, image, p, end.0) {
+        if f.code == 1 {
+            let at = p + f.val;
+            return string_in(frames::part_of(image, at, f.vlen), Place(at), number);
         }
+        shut = frames::is_last(Format::Tiny, f.code);
+        p += f.size;
     }
+    Err(Refusal::from(15))
 }
 
 // Where a string of the pool stands.
-pub fn string_part(format: u32, edition: u32, image: &[u8], number: StringNumber) -> Located
+pub fn string_part(
+    format: u32,
+    edition: u32,
+    image: &[u8],
+    number: StringNumber,
+) -> Result<Part, Refusal>
     ensures { result ≡ string_at format edition image.now number.0 }
 {
     if format != 3 {
-        return Located::Nowhere(refusal(16));
+        return Err(Refusal::from(16));
     }
-    let t = accept::take_image(format, edition, image);
-    match t {
-        Taken::Isnt(r) => Located::Nowhere(r),
-        Taken::Is(room) => pool_string(image, Place(room.start), Place(room.end), number),
-    }
+    let room = accept::take_image(format, edition, image)?;
+    pool_string(image, Place(room.start), Place(room.end), number)
 }
 
 // A string of the pool, as a part of the image, its last byte as stored; empty where it is refused.
@@ -324,8 +257,8 @@ impl Walk {
         ensures { result ≡ record { format = format; edition = edition; entry = 0 } }
     {
         Walk {
-            format: format,
-            edition: edition,
+            format,
+            edition,
             entry: 0,
         }
     }
@@ -334,26 +267,11 @@ impl Walk {
     pub fn step(self, image: &[u8]) -> Stepped
         ensures { result ≡ step_walk self image.now }
     {
-        let format = self.format;
-        let edition = self.edition;
-        let n = self.entry;
-        let x = entry_at(format, edition, image, n);
-        match x {
-            Lookup::Found(e) => {
-                let next = Walk {
-                    format: format,
-                    edition: edition,
-                    entry: n + 1,
-                };
-                Stepped {
-                    answer: Lookup::Found(e),
-                    next: next,
-                }
-            }
-            Lookup::Missing(r) => Stepped {
-                answer: Lookup::Missing(r),
-                next: self,
-            },
+        let answer = entry_at(self.format, self.edition, image, self.entry);
+        let mut next = self;
+        if answer.is_ok() {
+            next.entry += 1;
         }
+        Stepped { answer, next }
     }
 }

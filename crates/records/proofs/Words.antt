@@ -1,40 +1,33 @@
--- Words over lent bytes, one after another, and signed numbers in words.
+-- Words over lent bytes, one after another.
 -- Assumes nothing.
-use Prim.Native.Nat.{ℕ, ◌+◌, ◌*◌, ◌≤◌, ◌<◌}
+use Prim.Native.Nat.{ℕ, ◌+◌, ◌*◌, ◌/◌, ◌≤◌, ◌<◌}
 use mathlib.Core.Path.{◌≡◌, refl, ap, sym, ◌∙◌}
 use mathlib.Core.List.{List, [], ◌∷◌, ◌++◌}
-use native.Mathlib.Nat.{add-zero}
 use native.Mathlib.Numerals.{add-one}
 use native.Mathlib.Omega.{arith}
-use lib.IntN.{ℤ, pos, negsuc}
-use mir.Syntax.{w8}
-use mir.Val.{SFits}
-use lib.ListN.{length, get_or, set, take, length-append}
+use lib.ListN.{length, get_or, take, length-append}
 use lib.Seq.{take_all, take-suc, length-take-le}
 use lib.Dec.{leb}
-use borrow.Author.Tests.{le-leb, lt-leb}
+use Rattle.std.specs.Int.{w64, to_le_bytes}
 use Rattle.layout.proofs.Choices.{either}
 use Rattle.layout.proofs.Lists.{joined-append}
 use Rattle.output.specs.Placing.{over, copied}
-use Rattle.output.proofs.Overlay.{length_over, over-nil, over-over, copied-over, copied-not, Copying, copies, copied_all}
+use Rattle.output.proofs.Overlay.{length_over, over-nil, over-over, copied-over, copied-not}
 use Rattle.layout.specs.declared.Reading.{Reading}
 use Rattle.layout.specs.declared.Reading.TheVariants.{Plain, Text, Number, Addresses, Numbered, Tests, Identified, Batched, Dated, Timed}
 use Rattle.layout.specs.declared.Entry.{Entry}
 use Rattle.layout.specs.Calls.{told_reading}
-use Rattle.blocks.specs.declared.Offsets.{Offsets}
 use Rattle.blocks.specs.declared.Block.{Block}
-use Rattle.blocks.specs.Offset.{signed_byte, each_offset}
-use Rattle.records.specs.Words.{word_bytes, words_bytes, reading_words, former_words, record_words, record_bytes, records_bytes, signed_word, block_words, block_bytes}
+use Rattle.records.specs.Words.{word_bytes, words_bytes, reading_words, record_words, record_bytes, records_bytes, block_words, block_bytes}
 
--- four bytes stored one after another
-pub stored-four : (d : List ℕ) (a w x y z : ℕ) → a + 4 ≤ length d → set (set (set (set d a w) (a + 1) x) (a + 2) y) (a + 3) z ≡ copied d a (w ∷ x ∷ y ∷ z ∷ [])
-stored-four d a w x y z le =
-    let s : List ℕ = w ∷ x ∷ y ∷ z ∷ [] in
-    let none : Copying d a s d 0 = (omega arith, sym (over-nil d a)) in
-    let one : Copying d a s (set d a w) 1 = rw add-zero at (copies d a s d 0 le none w refl (omega arith)) in
-    let two = copies d a s _ 1 le one x refl (omega arith) in
-    let three = copies d a s _ 2 le two y refl (omega arith) in
-    copied_all d a s _ 4 le (copies d a s _ 3 le three z refl (omega arith)) (omega arith)
+-- the eight bytes of a number of 64 bits are those of its low word and of its high word
+pub long-bytes : (n : ℕ) → to_le_bytes w64 n ≡ words_bytes (n ∷ n / 4294967296 ∷ [])
+unfolding words_bytes
+long-bytes n =
+    let five : n / 1099511627776 ≡ n / 4294967296 / 256 = omega arith in
+    let six : n / 281474976710656 ≡ n / 4294967296 / 65536 = omega arith in
+    let seven : n / 72057594037927936 ≡ n / 4294967296 / 16777216 = omega arith in
+    rw (five, six, seven)
 
 pub length-words : (ws : List ℕ) → length (words_bytes ws) ≡ length ws * 4
 unfolding words_bytes
@@ -98,13 +91,6 @@ reading-eight (Batched x batch) = refl
 reading-eight (Dated d) = refl
 reading-eight (Timed d t) = refl
 
--- the words of a record by the edition
-pub framed-words : (e : ℕ) (x : Entry) → 4 ≤ e → set (former_words x) 7 x.size ≡ record_words e x
-framed-words e x le = rw (le-leb 4 e le)
-
-pub former-words : (e : ℕ) (x : Entry) → e < 4 → former_words x ≡ record_words e x
-former-words e x lt = rw (lt-leb 4 e lt)
-
 -- a record has 16 words and 64 bytes, whatever the edition
 pub record-sixteen : (e : ℕ) (x : Entry) → length (record_words e x) ≡ 16
 record-sixteen e x =
@@ -118,22 +104,6 @@ pub length-records : (e : ℕ) (xs : List Entry) → length (records_bytes e xs)
 unfolding records_bytes
 length-records e [] = refl
 length-records e (x ∷ xs) = let q = length-records e xs in omega (arith, q, length-record e x, length-append (record_bytes e x) (records_bytes e xs))
-
--- ---- signed numbers
-
--- a byte below 128 says a number that is not negative, and the word of one from 128 on is as far from 2^32 as the byte is from 256
-pub low_word : (z : ℤ) → SFits w8 z → signed_byte z < 128 → signed_byte z ≡ signed_word z
-low_word (pos n) f lt = refl
-low_word (negsuc n) f lt = absurd (omega (arith, f.sfits))
-
-pub high_word : (z : ℤ) → SFits w8 z → 128 ≤ signed_byte z → signed_byte z + 4294967040 ≡ signed_word z
-high_word (pos n) f le = absurd (omega (arith, f.sfits))
-high_word (negsuc n) f le = omega (arith, f.sfits)
-
--- a block has eight offsets
-pub offsets-eight : (o : Offsets) → let w = each_offset signed_word o in
-    get_or w 0 0 ∷ get_or w 1 0 ∷ get_or w 2 0 ∷ get_or w 3 0 ∷ get_or w 4 0 ∷ get_or w 5 0 ∷ get_or w 6 0 ∷ get_or w 7 0 ∷ [] ≡ w
-offsets-eight o = refl
 
 -- a block has 48 bytes
 pub length-block : (b : Block) → length (block_bytes b) ≡ 48

@@ -1,9 +1,8 @@
 -- What the calls from C answer, and what the memory then is that they were lent (docs/C-INTERFACE.md).
 -- Assumes nothing.
-use Rattle.std.specs.Prelude.{ℕ, ◌+◌, ◌*◌, ◌/◌, ◌%◌, List, [], ◌∷◌, ◌++◌, length, take, drop, leb}
+use Rattle.std.specs.Prelude.{ℕ, ◌+◌, ◌*◌, ◌/◌, ◌%◌, List, [], ◌∷◌, ◌++◌, length, take, drop, leb, Ok, Err}
 use Rattle.layout.specs.declared.Entry.{Entry}
-use Rattle.layout.specs.declared.Lookup.{Lookup}
-use Rattle.layout.specs.declared.Lookup.TheVariants.{Found, Missing}
+use Rattle.layout.specs.Answers.{Lookup}
 use Rattle.layout.specs.declared.Refusal.{Refusal}
 use Rattle.layout.specs.Bytes.{if, part_at, refusal}
 use Rattle.layout.specs.Editions.{shape}
@@ -14,8 +13,7 @@ use Rattle.layout.specs.Edit.{edit_entry}
 use Rattle.layout.specs.Add.{add_field}
 use Rattle.layout.specs.Remove.{remove_entry}
 use Rattle.blocks.specs.declared.Offsets.{Offsets}
-use Rattle.blocks.specs.declared.Vended.{Vended}
-use Rattle.blocks.specs.declared.Vended.TheVariants.{Tells, Unread}
+use Rattle.blocks.specs.Answers.{Vended}
 use Rattle.blocks.specs.Offset.{offsets_in}
 use Rattle.blocks.specs.Vendor.{read_vendor, told_vended, pieces_in, write_vendor}
 use Rattle.rooms.specs.Calls.{add_board, replace_board, remove_board, fetch_board}
@@ -45,11 +43,11 @@ string_call f e img number = packed (told_located (string_at f e img number))
 
 -- the entry's record for an edition takes the place of the first 64 bytes; 12 where they are not there
 abbrev pub recorded : ℕ → Lookup → List ℕ → Given
-recorded e (Found x) m =
+recorded e (Ok x) m =
     if (leb 64 (length m))
-    (λ _. record { answer = packed (told_lookup (Found x)); memory = record_bytes e x ++ drop 64 m })
+    (λ _. record { answer = packed (told_lookup (Ok x)); memory = record_bytes e x ++ drop 64 m })
     (λ _. kept (refusal 12 0) m)
-recorded e (Missing r) m = kept r m
+recorded e (Err r) m = kept r m
 
 unfoldable pub entry_call : ℕ → ℕ → List ℕ → ℕ → List ℕ → Given
 entry_call f e img n m = recorded e (entry_at f e img n) m
@@ -81,11 +79,11 @@ unmoved r w m = record { answer = packed (told_refusal r); walk = w; memory = m 
 
 -- the walk has the entry number n where the step is not refused; the record is one for the walk's edition
 abbrev pub stepped_to : Lookup → ℕ → List ℕ → List ℕ → Moved
-stepped_to (Found x) n w m =
+stepped_to (Ok x) n w m =
     if (leb 64 (length m))
-    (λ _. record { answer = packed (told_lookup (Found x)); walk = walk_at w n; memory = record_bytes (walk_edition w) x ++ drop 64 m })
+    (λ _. record { answer = packed (told_lookup (Ok x)); walk = walk_at w n; memory = record_bytes (walk_edition w) x ++ drop 64 m })
     (λ _. unmoved (refusal 12 0) w m)
-stepped_to (Missing r) n w m = unmoved r w m
+stepped_to (Err r) n w m = unmoved r w m
 
 abbrev pub stepped : Step → List ℕ → List ℕ → Moved
 stepped s w m = stepped_to s.answer s.next w m
@@ -140,13 +138,13 @@ ungiven r payload m = record { answer = packed (told_refusal r); payload = paylo
 
 -- what refuses a read where less than a block is lent: 12 at 0, after every other refusal
 abbrev pub unlent : Vended → Refusal
-unlent (Tells n b) = refusal 12 0
-unlent (Unread r) = r
+unlent (Ok (n, b)) = refusal 12 0
+unlent (Err r) = r
 
 -- the block takes the place of the first 48 bytes
 abbrev pub vendor_given : Vended → List ℕ → List ℕ → VendorGiven
-vendor_given (Tells n b) payload m = record { answer = packed (told_vended (Tells n b)); payload = payload; block = block_bytes b ++ drop 48 m }
-vendor_given (Unread r) payload m = ungiven r payload m
+vendor_given (Ok (n, b)) payload m = record { answer = packed (told_vended (Ok (n, b))); payload = payload; block = block_bytes b ++ drop 48 m }
+vendor_given (Err r) payload m = ungiven r payload m
 
 unfoldable pub vendor_read_call : ℕ → ℕ → List ℕ → List ℕ → List ℕ → VendorGiven
 vendor_read_call f e img buffer m =

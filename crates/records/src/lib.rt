@@ -1,5 +1,6 @@
 // What goes out to C: the packed answer, and an entry record and a vendor block in lent bytes.
-#![tactic(auto)]
+// The goals are tried with these definitions opened.
+#![tactic(auto, unfolding(layout::specs::Calls::told_reading, crate::specs::Packed::packed, crate::specs::Words::record_bytes, crate::specs::Words::block_bytes))]
 
 ghost use Rattle.std.specs.Prelude.{◌≡◌, ℕ, ◌+◌, ◌*◌, ◌/◌, ◌≤◌, [], ◌∷◌, length};
 ghost use Rattle.layout.specs.Calls.{told, told_refusal, told_checked, told_located};
@@ -11,7 +12,7 @@ ghost use Rattle.records.specs.Packed.{packed};
 ghost use Rattle.records.specs.Words.{word_bytes, words_bytes, reading_words, former_words, record_words, record_bytes, signed_word, block_words, block_bytes};
 
 use blocks::{Block, Offsets};
-use layout::{Checked, Date, Entry, Identity, Located, Made, Reading, Refusal};
+use layout::{Date, Entry, Identity, Part, Reading, Refusal, Time};
 
 // ---- the packed answer
 
@@ -19,13 +20,10 @@ use layout::{Checked, Date, Entry, Identity, Located, Made, Reading, Refusal};
 pub fn pack_refusal(r: Refusal) -> u64
     ensures { result ≡ packed (told_refusal r) }
 {
-    let number = r.number;
-    if number == 0 {
+    if r.number == 0 {
         return 0;
     }
-    let place = r.place;
-    let at = place.0;
-    (number % 32) as u64 * 576460752303423488 + (at % 576460752303423488) as u64
+    u64::from(r.number % 32) * 576460752303423488 + (r.place.0 % 576460752303423488) as u64
 }
 
 // A count.
@@ -35,33 +33,24 @@ pub fn pack_count(n: usize) -> u64
     (n % 134217728) as u64 * 4294967296
 }
 
-// A count of entries, or the refusal.
-pub fn pack_checked(x: Checked) -> u64
-    ensures { result ≡ packed (told_checked x) }
+// A number of entries or of bytes, or the refusal: the answer of a check and of a list, of a write and of an edit.
+pub fn pack_answer(x: Result<usize, Refusal>) -> u64
+    ensures checked { result ≡ packed (told_checked x) }
+    ensures made { result ≡ packed (told_made x) }
 {
     match x {
-        Checked::Accepted(n) => pack_count(n),
-        Checked::Refused(r) => pack_refusal(r),
-    }
-}
-
-// The length of the image that was made, or the refusal.
-pub fn pack_made(x: Made) -> u64
-    ensures { result ≡ packed (told_made x) }
-{
-    match x {
-        Made::Wrote(n) => pack_count(n),
-        Made::Unwritten(r) => pack_refusal(r),
+        Ok(n) => pack_count(n),
+        Err(r) => pack_refusal(r),
     }
 }
 
 // A part of the image, or the refusal.
-pub fn pack_located(x: Located) -> u64
+pub fn pack_located(x: Result<Part, Refusal>) -> u64
     ensures { result ≡ packed (told_located x) }
 {
     match x {
-        Located::Nowhere(r) => pack_refusal(r),
-        Located::At(part) => {
+        Err(r) => pack_refusal(r),
+        Ok(part) => {
             let place = part.place;
             let at = place.0;
             (part.len % 134217728) as u64 * 4294967296 + (at % 4294967296) as u64
@@ -76,26 +65,18 @@ fn put_word(out: &mut [u8], at: usize, n: u64)
     requires { at + 4 ≤ length out.old }
     ensures { out.new ≡ copied out.old at (word_bytes n) }
 {
-    out[at] = (n % 256) as u8;
-    out[at + 1] = (n / 256 % 256) as u8;
-    out[at + 2] = (n / 65536 % 256) as u8;
-    out[at + 3] = (n / 16777216 % 256) as u8;
+    let bytes = n.to_le_bytes();
+    out[at..at + 4].copy_from_slice(&bytes[..4]);
 }
 
-// Words over `out`, from `at` on, where they fit. The room is tested once, and the bytes are then stored with no further test.
+// Words over `out`, from `at` on, where they fit. The room is tested once.
 fn put_words(out: &mut [u8], at: usize, words: &[u64])
     ensures { out.new ≡ copied out.old at (words_bytes words.now) }
 {
-    if out.len() < at {
-        return;
-    }
-    if (out.len() - at) / 4 < words.len() {
-        return;
-    }
-    let mut i = 0;
-    while i < words.len() {
-        put_word(out, at + i * 4, words[i]);
-        i += 1;
+    if at <= out.len() && words.len() <= (out.len() - at) / 4 {
+        for (i, word) in words.iter().enumerate() {
+            put_word(out, at + i * 4, *word);
+        }
     }
 }
 
@@ -103,38 +84,35 @@ fn put_words(out: &mut [u8], at: usize, words: &[u64])
 pub fn put_long(out: &mut [u8], at: usize, n: u64)
     ensures { out.new ≡ copied out.old at (words_bytes (n ∷ n / 4294967296 ∷ [])) }
 {
-    let words = [n, n / 4294967296];
-    put_words(out, at, &words);
+    output::copy_at(out, at, &n.to_le_bytes());
 }
 
 fn identity_words(first: u64, x: Identity, last: u64) -> [u64; 8]
     ensures { result ≡ (first ∷ x.serial.0 ∷ x.part.0 ∷ x.major ∷ x.minor ∷ x.free0 ∷ x.free1 ∷ last ∷ []) }
 {
-    let serial = x.serial;
-    let part = x.part;
     [
         first,
-        serial.0 as u64,
-        part.0 as u64,
-        x.major as u64,
-        x.minor as u64,
-        x.free0 as u64,
-        x.free1 as u64,
+        x.serial.0 as u64,
+        x.part.0 as u64,
+        u64::from(x.major),
+        u64::from(x.minor),
+        u64::from(x.free0),
+        u64::from(x.free1),
         last,
     ]
 }
 
-fn date_words(first: u64, d: Date, hour: u32, minute: u32, second: u32) -> [u64; 8]
-    ensures { result ≡ (first ∷ d.year ∷ d.month ∷ d.day ∷ hour ∷ minute ∷ second ∷ 0 ∷ []) }
+fn date_words(first: u64, d: Date, t: Time) -> [u64; 8]
+    ensures { result ≡ (first ∷ d.year ∷ d.month ∷ d.day ∷ t.hour ∷ t.minute ∷ t.second ∷ 0 ∷ []) }
 {
     [
         first,
-        d.year as u64,
-        d.month as u64,
-        d.day as u64,
-        hour as u64,
-        minute as u64,
-        second as u64,
+        u64::from(d.year),
+        u64::from(d.month),
+        u64::from(d.day),
+        u64::from(t.hour),
+        u64::from(t.minute),
+        u64::from(t.second),
         0,
     ]
 }
@@ -143,9 +121,9 @@ fn reading_words(r: Reading) -> [u64; 8]
     ensures { result ≡ reading_words r }
 {
     match r {
-        Reading::Plain => [0, 0, 0, 0, 0, 0, 0, 0],
+        Reading::Plain => [0; 8],
         Reading::Text => [1, 0, 0, 0, 0, 0, 0, 0],
-        Reading::Number(n) => [2, n as u64, 0, 0, 0, 0, 0, 0],
+        Reading::Number(n) => [2, u64::from(n), 0, 0, 0, 0, 0, 0],
         Reading::Addresses(base, count) => [
             3,
             base / 4294967296,
@@ -157,11 +135,18 @@ fn reading_words(r: Reading) -> [u64; 8]
             0,
         ],
         Reading::Numbered(s) => [4, s.0 as u64, 0, 0, 0, 0, 0, 0],
-        Reading::Tests(byte, passed) => [5, byte as u64, passed as u64, 0, 0, 0, 0, 0],
+        Reading::Tests(byte, passed) => [5, u64::from(byte), u64::from(passed), 0, 0, 0, 0, 0],
         Reading::Identified(x) => identity_words(6, x, 0),
-        Reading::Batched(x, batch) => identity_words(7, x, batch as u64),
-        Reading::Dated(d) => date_words(8, d, 0, 0, 0),
-        Reading::Timed(d, t) => date_words(9, d, t.hour, t.minute, t.second),
+        Reading::Batched(x, batch) => identity_words(7, x, u64::from(batch)),
+        Reading::Dated(d) => {
+            let midnight = Time {
+                hour: 0,
+                minute: 0,
+                second: 0,
+            };
+            date_words(8, d, midnight)
+        }
+        Reading::Timed(d, t) => date_words(9, d, t),
     }
 }
 
@@ -169,21 +154,15 @@ fn reading_words(r: Reading) -> [u64; 8]
 fn former_words(x: Entry) -> [u64; 16]
     ensures { result ≡ former_words x }
 {
-    let place = x.place;
-    let key = x.key;
-    let key_place = key.place;
-    let value = x.value;
-    let value_place = value.place;
-    let reading = x.reading;
-    let w = reading_words(reading);
+    let w = reading_words(x.reading);
     [
-        x.code as u64,
-        x.kind as u64,
-        place.0 as u64,
-        key_place.0 as u64,
-        key.len as u64,
-        value_place.0 as u64,
-        value.len as u64,
+        u64::from(x.code),
+        u64::from(x.kind),
+        x.place.0 as u64,
+        x.key.place.0 as u64,
+        x.key.len as u64,
+        x.value.place.0 as u64,
+        x.value.len as u64,
         0,
         w[0],
         w[1],
@@ -211,8 +190,7 @@ fn record_words(edition: u32, x: Entry) -> [u64; 16]
 pub fn put_record(out: &mut [u8], at: usize, edition: u32, x: Entry)
     ensures { out.new ≡ copied out.old at (record_bytes edition x) }
 {
-    let words = record_words(edition, x);
-    put_words(out, at, &words);
+    put_words(out, at, &record_words(edition, x));
 }
 
 // ---- a vendor block
@@ -221,50 +199,33 @@ pub fn put_record(out: &mut [u8], at: usize, edition: u32, x: Entry)
 fn signed_word(z: i8) -> u64
     ensures { result ≡ signed_word z }
 {
-    let b = offsets::byte_of(z) as u64;
-    if b < 128 {
-        return b;
-    }
-    b + 4294967040
+    u64::from(i32::from(z).cast_unsigned())
 }
 
 fn offset_words(o: Offsets) -> [u64; 8]
     ensures { result ≡ each_offset signed_word o }
 {
-    let a = o.c_west_in;
-    let b = o.c_west_out;
-    let c = o.c_east_in;
-    let d = o.c_east_out;
-    let e = o.l_west_in;
-    let f = o.l_west_out;
-    let g = o.l_east_in;
-    let h = o.l_east_out;
     [
-        signed_word(a),
-        signed_word(b),
-        signed_word(c),
-        signed_word(d),
-        signed_word(e),
-        signed_word(f),
-        signed_word(g),
-        signed_word(h),
+        signed_word(o.c_west_in),
+        signed_word(o.c_west_out),
+        signed_word(o.c_east_in),
+        signed_word(o.c_east_out),
+        signed_word(o.l_west_in),
+        signed_word(o.l_west_out),
+        signed_word(o.l_east_in),
+        signed_word(o.l_east_out),
     ]
 }
 
 fn block_words(x: Block) -> [u64; 12]
     ensures { result ≡ block_words x }
 {
-    let serial = x.serial;
-    let serial_place = serial.place;
-    let block = x.block;
-    let block_place = block.place;
-    let offsets = x.offsets;
-    let w = offset_words(offsets);
+    let w = offset_words(x.offsets);
     [
-        serial_place.0 as u64,
-        serial.len as u64,
-        block_place.0 as u64,
-        block.len as u64,
+        x.serial.place.0 as u64,
+        x.serial.len as u64,
+        x.block.place.0 as u64,
+        x.block.len as u64,
         w[0],
         w[1],
         w[2],
@@ -280,6 +241,5 @@ fn block_words(x: Block) -> [u64; 12]
 pub fn put_block(out: &mut [u8], x: Block)
     ensures { out.new ≡ copied out.old 0 (block_bytes x) }
 {
-    let words = block_words(x);
-    put_words(out, 0, &words);
+    put_words(out, 0, &block_words(x));
 }

@@ -10,7 +10,7 @@ use lib.ListN.{length, take, drop, length-append, length-drop}
 use lib.Seq.{length-take-le}
 use lib.Dec.{ltb, leb, eqb}
 use borrow.Author.Tests.{ltb-true, ltb-false, leb-true, lt-ltb, le-ltb, eq-eqb, ne_eqb}
-use Rattle.layout.specs.declared.Located.TheVariants.{At}
+use Rattle.std.specs.Prelude.{Ok}
 use Rattle.layout.specs.Bytes.{part_at, refusal}
 use Rattle.layout.specs.Each.{Each, none as nothing, also}
 use Rattle.layout.specs.Change.{allowed, denied}
@@ -158,13 +158,13 @@ there n (also {x = b} {xs = bs} s ss) = go (order b.number n) (there n ss)
 
 -- a body stands after those below it
 pub body-at : (n p : ℕ) {low : ℕ} {bs : List Board} → Rising low bs → (b : Board) → own n bs ≡ b ∷ [] →
-    body_at n p bs ≡ At (part_at (p + length (bodies_of (below n bs))) (length (bodies_of (own n bs))))
+    body_at n p bs ≡ Ok (part_at (p + length (bodies_of (below n bs))) (length (bodies_of (own n bs))))
 unfolding below own body_at bodies_of
 body-at n p none b q = let z : ◌≡◌ {A = ℕ} 0 1 = cc in absurd (omega arith)
 body-at n p (next {b = x} {bs = bs} le rs) b q = step (order x.number n) (λ o. body-at n (p + length x.body) rs b o)
   where
-    step : Order x.number n → (own n bs ≡ b ∷ [] → body_at n (p + length x.body) bs ≡ At (part_at (p + length x.body + length (bodies_of (below n bs))) (length (bodies_of (own n bs))))) →
-        body_at n p (x ∷ bs) ≡ At (part_at (p + length (bodies_of (below n (x ∷ bs)))) (length (bodies_of (own n (x ∷ bs)))))
+    step : Order x.number n → (own n bs ≡ b ∷ [] → body_at n (p + length x.body) bs ≡ Ok (part_at (p + length x.body + length (bodies_of (below n bs))) (length (bodies_of (own n bs))))) →
+        body_at n p (x ∷ bs) ≡ Ok (part_at (p + length (bodies_of (below n (x ∷ bs)))) (length (bodies_of (own n (x ∷ bs)))))
     step (lower lt) rest =
         let ne = ne_eqb x.number n (λ e. omega arith) in
         rw (ne_eqb n x.number (λ e. omega arith), lt-ltb x.number n lt, ne, length-append x.body (bodies_of (below n bs)), ← add_assoc p (length x.body) (length (bodies_of (below n bs)))) (rest (rw ne at q))

@@ -4,10 +4,10 @@ use Prim.Native.Nat.{ℕ, ◌+◌, ◌*◌, ◌-◌, ◌/◌, ◌≤◌, ◌<◌
 use mathlib.Core.Path.{◌≡◌, refl, ap, ap₂, sym, ◌∙◌}
 use mathlib.Core.List.{List, [], ◌++◌, append_assoc, append-nil}
 use native.Mathlib.Omega.{arith}
-use lib.ListN.{length, take, drop, length-append, length-drop}
+use lib.ListN.{length, drop, length-append, length-drop}
 use lib.Seq.{take_at, drop_at, length-take-le}
 use borrow.Author.Tests.{le-leb, lt-leb}
-use Rattle.layout.specs.declared.Made.TheVariants.{Wrote}
+use Rattle.std.specs.Prelude.{Ok}
 use Rattle.layout.specs.Bytes.{part, refusal}
 use Rattle.layout.specs.Write.{refuse, put_bytes}
 use Rattle.layout.proofs.Lists.{joined-append}
@@ -56,23 +56,16 @@ between_is a x m y z s new from cut next end q f c n e =
     rw (first, last)
 
 -- three copies, one after another
-module _ (d : List ℕ) (to from cut next end : ℕ) (new s : List ℕ) where
-  long : length (between from cut next end new s) ≡ length (take (cut - from) (drop from s)) + (length new + length (take (end - next) (drop next s)))
-  unfolding between part
-  long =
-      length-append (take (cut - from) (drop from s)) (new ++ take (end - next) (drop next s))
-      ∙ ap (λ (k : ℕ). length (take (cut - from) (drop from s)) + k) (length-append new (take (end - next) (drop next s)))
+module _ (d : List ℕ) (to : ℕ) (x new z : List ℕ) where
+  long : length (x ++ (new ++ z)) ≡ length x + (length new + length z)
+  long = length-append x (new ++ z) ∙ ap (λ (k : ℕ). length x + k) (length-append new z)
 
-  pub between-room : to + length (between from cut next end new s) ≤ length d → to + length (take (cut - from) (drop from s)) + length new ≤ length d
+  pub between-room : to + length (x ++ (new ++ z)) ≤ length d → to + length x + length new ≤ length d
   between-room le = omega (arith, long)
 
-  pub between_put : {d₁ d₂ d₃ : List ℕ} → d₁ ≡ copied d to (take (cut - from) (drop from s)) → d₂ ≡ copied d₁ (to + length (take (cut - from) (drop from s))) new →
-      d₃ ≡ copied d₂ (to + length (take (cut - from) (drop from s)) + length new) (take (end - next) (drop next s)) →
-      to + length (between from cut next end new s) ≤ length d → d₃ ≡ copied d to (between from cut next end new s)
-  unfolding between part
+  pub between_put : {d₁ d₂ d₃ : List ℕ} → d₁ ≡ copied d to x → d₂ ≡ copied d₁ (to + length x) new → d₃ ≡ copied d₂ (to + length x + length new) z →
+      to + length (x ++ (new ++ z)) ≤ length d → d₃ ≡ copied d to (x ++ (new ++ z))
   between_put a b c le =
-      let x : List ℕ = take (cut - from) (drop from s) in
-      let z : List ℕ = take (end - next) (drop next s) in
       let l : length (x ++ new) ≡ length x + length new = length-append x new in
       let l2 : length (x ++ new ++ z) ≡ length (x ++ new) + length z = length-append (x ++ new) z in
       copied-then d to (x ++ new) z (copied-then d to x new a b (omega (arith, l, long)) refl) c (omega (arith, l, l2, long)) (omega (arith, l)) ∙ ap (copied d to) (append_assoc x new z)
@@ -86,61 +79,61 @@ rows_append = joined-append rows_of row_of refl (λ b bs. refl)
 -- ---- the new file
 
 -- what a tally has lies in the file: how long the blocks are
-module _ (form : ℕ) (file : List ℕ) (n : ℕ) (t : Tally) (row body : List ℕ) (lies : Lies (length file) n t) where
-  pub length-new-rows : length (between 8 (8 + 8 * t.rows) (8 + 8 * t.rows + 8 * rows_gone t.own) (8 + 8 * n) row file) ≡ 8 * n - 8 * rows_gone t.own + length row
+module _ (form : ℕ) (file : List ℕ) (t : Tally) (row body : List ℕ) (lies : Lies (length file) t) where
+  pub length-new-rows : length (between 8 (8 + 8 * t.rows) (8 + 8 * t.rows + 8 * rows_gone t.own) (8 + 8 * t.count) row file) ≡ 8 * t.count - 8 * rows_gone t.own + length row
   length-new-rows =
-      length-between 8 (8 + 8 * t.rows) (8 + 8 * t.rows + 8 * rows_gone t.own) (8 + 8 * n) row file (omega arith) (omega (arith, lies.rows, lies.bodies)) (omega (arith, lies.rows)) (omega (arith, lies.bodies))
+      length-between 8 (8 + 8 * t.rows) (8 + 8 * t.rows + 8 * rows_gone t.own) (8 + 8 * t.count) row file (omega arith) (omega (arith, lies.rows, lies.bodies)) (omega (arith, lies.rows)) (omega (arith, lies.bodies))
       ∙ omega (arith, lies.rows)
 
   -- wherever the body that goes stands
-  pub length-new-bodies : (cut : ℕ) → 8 + 8 * n ≤ cut → cut + t.own ≤ length file →
-      length (between (8 + 8 * n) cut (cut + t.own) (length file) body file) ≡ length file - (8 + 8 * n) - t.own + length body
+  pub length-new-bodies : (cut : ℕ) → 8 + 8 * t.count ≤ cut → cut + t.own ≤ length file →
+      length (between (8 + 8 * t.count) cut (cut + t.own) (length file) body file) ≡ length file - (8 + 8 * t.count) - t.own + length body
   length-new-bodies cut from to =
-      length-between (8 + 8 * n) cut (cut + t.own) (length file) body file from (omega (arith, to)) to (omega arith) ∙ omega (arith, from, to)
+      length-between (8 + 8 * t.count) cut (cut + t.own) (length file) body file from (omega (arith, to)) to (omega arith) ∙ omega (arith, from, to)
 
-  pub length-laid : length (laid form file n t row body) ≡ length file - 8 * rows_gone t.own - t.own + length row + length body
+  pub length-laid : length (laid form file t row body) ≡ length file - 8 * rows_gone t.own - t.own + length row + length body
   unfolding laid
   length-laid =
-      let h : List ℕ = head form (n - rows_gone t.own + length row / 8) in
-      let rs : List ℕ = between 8 (8 + 8 * t.rows) (8 + 8 * t.rows + 8 * rows_gone t.own) (8 + 8 * n) row file in
-      let bs : List ℕ = between (8 + 8 * n) (8 + 8 * n + t.below) (8 + 8 * n + t.below + t.own) (length file) body file in
-      omega (arith, length-append h (rs ++ bs), length-append rs bs, head-length form (n - rows_gone t.own + length row / 8), length-new-rows, length-new-bodies (8 + 8 * n + t.below) (omega arith) lies.bodies, lies.rows, lies.bodies)
+      let h : List ℕ = head form (t.count - rows_gone t.own + length row / 8) in
+      let rs : List ℕ = between 8 (8 + 8 * t.rows) (8 + 8 * t.rows + 8 * rows_gone t.own) (8 + 8 * t.count) row file in
+      let bs : List ℕ = between (8 + 8 * t.count) (8 + 8 * t.count + t.below) (8 + 8 * t.count + t.below + t.own) (length file) body file in
+      omega (arith, length-append h (rs ++ bs), length-append rs bs, head-length form (t.count - rows_gone t.own + length row / 8), length-new-rows, length-new-bodies (8 + 8 * t.count + t.below) (omega arith) lies.bodies, lies.rows, lies.bodies)
 
   module _ (out : List ℕ) where
-    pub laid-short : length out < length file - 8 * rows_gone t.own - t.own + length row + length body → put_bytes (laid form file n t row body) out ≡ refuse (refusal 12 0) out
-    laid-short lt = rw (lt-leb (length (laid form file n t row body)) (length out) (omega (arith, length-laid)))
+    pub laid-short : length out < length file - 8 * rows_gone t.own - t.own + length row + length body → put_bytes (laid form file t row body) out ≡ refuse (refusal 12 0) out
+    laid-short lt = rw (lt-leb (length (laid form file t row body)) (length out) (omega (arith, length-laid)))
 
     pub laid-fits : length file - 8 * rows_gone t.own - t.own + length row + length body ≤ length out →
-        put_bytes (laid form file n t row body) out ≡ record { answer = Wrote (length file - 8 * rows_gone t.own - t.own + length row + length body); memory = copied out 0 (laid form file n t row body) }
+        put_bytes (laid form file t row body) out ≡ record { answer = Ok (length file - 8 * rows_gone t.own - t.own + length row + length body); memory = copied out 0 (laid form file t row body) }
     laid-fits le =
-        let fits : length (laid form file n t row body) ≤ length out = omega (arith, length-laid) in
-        rw (le-leb (length (laid form file n t row body)) (length out) fits, copied-front out (laid form file n t row body) fits, length-laid)
+        let fits : length (laid form file t row body) ≤ length out = omega (arith, length-laid) in
+        rw (le-leb (length (laid form file t row body)) (length out) fits, copied-front out (laid form file t row body) fits, length-laid)
 
 -- head, rows and bodies, one after another
-module _ (form : ℕ) (file : List ℕ) (n : ℕ) (t : Tally) (row body : List ℕ) (lies : Lies (length file) n t) (out : List ℕ) {gone : ℕ} (is : gone ≡ rows_gone t.own) where
-  module _ (le : length (laid form file n t row body) ≤ length out) where
-    pub rows-room : 8 + length (between 8 (8 + 8 * t.rows) (8 + 8 * t.rows + 8 * gone) (8 + 8 * n) row file) ≤ length out
-    rows-room = rw is (omega (arith, length-new-rows form file n t row body lies, length-laid form file n t row body lies, lies.rows, lies.bodies))
+module _ (form : ℕ) (file : List ℕ) (t : Tally) (row body : List ℕ) (lies : Lies (length file) t) (out : List ℕ) {gone : ℕ} (is : gone ≡ rows_gone t.own) where
+  module _ (le : length (laid form file t row body) ≤ length out) where
+    pub rows-room : 8 + length (between 8 (8 + 8 * t.rows) (8 + 8 * t.rows + 8 * gone) (8 + 8 * t.count) row file) ≤ length out
+    rows-room = rw is (omega (arith, length-new-rows form file t row body lies, length-laid form file t row body lies, lies.rows, lies.bodies))
 
-    pub bodies-room : (cut : ℕ) → 8 + 8 * n ≤ cut → cut + t.own ≤ length file →
-        8 + 8 * n - 8 * gone + length row + length (between (8 + 8 * n) cut (cut + t.own) (length file) body file) ≤ length out
-    bodies-room cut from to = rw is (omega (arith, length-new-bodies form file n t row body lies cut from to, length-laid form file n t row body lies, lies.rows, lies.bodies))
+    pub bodies-room : (cut : ℕ) → 8 + 8 * t.count ≤ cut → cut + t.own ≤ length file →
+        8 + 8 * t.count - 8 * gone + length row + length (between (8 + 8 * t.count) cut (cut + t.own) (length file) body file) ≤ length out
+    bodies-room cut from to = rw is (omega (arith, length-new-bodies form file t row body lies cut from to, length-laid form file t row body lies, lies.rows, lies.bodies))
 
-  pub laid-put : {h d₁ d₂ d₃ : List ℕ} → h ≡ head form (n - gone + length row / 8) → d₁ ≡ copied out 0 h →
-      d₂ ≡ copied d₁ 8 (between 8 (8 + 8 * t.rows) (8 + 8 * t.rows + 8 * gone) (8 + 8 * n) row file) →
-      d₃ ≡ copied d₂ (8 + 8 * n - 8 * gone + length row) (between (8 + 8 * n) (8 + 8 * n + t.below) (8 + 8 * n + t.below + t.own) (length file) body file) →
-      length (laid form file n t row body) ≤ length out → d₃ ≡ copied out 0 (laid form file n t row body)
+  pub laid-put : {h d₁ d₂ d₃ : List ℕ} → h ≡ head form (t.count - gone + length row / 8) → d₁ ≡ copied out 0 h →
+      d₂ ≡ copied d₁ 8 (between 8 (8 + 8 * t.rows) (8 + 8 * t.rows + 8 * gone) (8 + 8 * t.count) row file) →
+      d₃ ≡ copied d₂ (8 + 8 * t.count - 8 * gone + length row) (between (8 + 8 * t.count) (8 + 8 * t.count + t.below) (8 + 8 * t.count + t.below + t.own) (length file) body file) →
+      length (laid form file t row body) ≤ length out → d₃ ≡ copied out 0 (laid form file t row body)
   unfolding laid
   laid-put {h} q a b c le =
-      let x : List ℕ = head form (n - rows_gone t.own + length row / 8) in
-      let y : List ℕ = between 8 (8 + 8 * t.rows) (8 + 8 * t.rows + 8 * rows_gone t.own) (8 + 8 * n) row file in
-      let z : List ℕ = between (8 + 8 * n) (8 + 8 * n + t.below) (8 + 8 * n + t.below + t.own) (length file) body file in
-      let lx : length x ≡ 8 = head-length form (n - rows_gone t.own + length row / 8) in
-      let ly = length-new-rows form file n t row body lies in
+      let x : List ℕ = head form (t.count - rows_gone t.own + length row / 8) in
+      let y : List ℕ = between 8 (8 + 8 * t.rows) (8 + 8 * t.rows + 8 * rows_gone t.own) (8 + 8 * t.count) row file in
+      let z : List ℕ = between (8 + 8 * t.count) (8 + 8 * t.count + t.below) (8 + 8 * t.count + t.below + t.own) (length file) body file in
+      let lx : length x ≡ 8 = head-length form (t.count - rows_gone t.own + length row / 8) in
+      let ly = length-new-rows form file t row body lies in
       let l : length (x ++ y) ≡ length x + length y = length-append x y in
       let l2 : length (x ++ y ++ z) ≡ length (x ++ y) + length z = length-append (x ++ y) z in
       let l3 : length (x ++ (y ++ z)) ≡ length (x ++ y ++ z) = ap length (sym (append_assoc x y z)) in
-      let first = a ∙ ap (copied out 0) (q ∙ ap (λ (k : ℕ). head form (n - k + length row / 8)) is) in
+      let first = a ∙ ap (copied out 0) (q ∙ ap (λ (k : ℕ). head form (t.count - k + length row / 8)) is) in
       let second = copied-then out 0 x y first (rw is at b) (omega (arith, l, l2, l3)) (omega (arith, lx)) in
       copied-then out 0 (x ++ y) z second c (omega (arith, l2, l3)) (omega (arith, lx, ly, l, is, lies.rows)) ∙ ap (copied out 0) (append_assoc x y z)
 
@@ -161,7 +154,7 @@ module _ (form : ℕ) (bs : List Board) (n : ℕ) (split : bs ≡ below n bs ++ 
       ∙ length-append (bodies_of (below n bs)) (bodies_of (own n bs) ++ bodies_of (above n bs))
       ∙ ap (λ (k : ℕ). length (bodies_of (below n bs)) + k) (length-append (bodies_of (own n bs)) (bodies_of (above n bs)))
 
-  pub tally-lies : Lies (length (file_of form bs)) (length bs) (tally_of n bs)
+  pub tally-lies : Lies (length (file_of form bs)) (tally_of n bs)
   tally-lies = record { rows = omega (arith, count, gone); bodies = omega (arith, file-length form bs, bodies-count) }
 
   module _ (new : List Board) where
@@ -196,6 +189,6 @@ module _ (form : ℕ) (bs : List Board) (n : ℕ) (split : bs ≡ below n bs ++ 
         ∙ whole bodies_of bodies-append
 
     -- the file with the new boards in the place of number n
-    pub laid-is : laid form (file_of form bs) (length bs) (tally_of n bs) (rows_of new) (bodies_of new) ≡ file_of form (changed n new bs)
+    pub laid-is : laid form (file_of form bs) (tally_of n bs) (rows_of new) (bodies_of new) ≡ file_of form (changed n new bs)
     unfolding laid file_of
     laid-is = ap₂ (λ (a b : List ℕ). a ++ b) (ap (head form) new-count) (ap₂ (λ (a b : List ℕ). a ++ b) new-rows new-bodies)

@@ -5,8 +5,8 @@ use mathlib.Core.Path.{◌≡◌, refl, ap, subst}
 use mathlib.Core.List.{List, [], ◌∷◌, ◌++◌}
 use native.Mathlib.Omega.{arith}
 use lib.ListN.{length, length-append}
-use Rattle.layout.specs.declared.Checked.{Checked}
-use Rattle.layout.specs.declared.Checked.TheVariants.{Accepted, Refused as RefusedBy}
+use Rattle.std.specs.Prelude.{Ok, Err}
+use Rattle.layout.specs.Answers.{Checked}
 use Rattle.layout.specs.Bytes.{all, refusal}
 use Rattle.layout.specs.Calls.{told_checked, check_image}
 use Rattle.layout.specs.Change.{Allowed, allowed, denied}
@@ -30,9 +30,9 @@ unfolding all
 body e b p = go (check_image b.format e b.body) refl
   where
     go : (x : Checked) → check_image b.format e b.body ≡ x → Body e b p (body_allowed x p)
-    go (Accepted n) q = accepted (record { count = n; counts = ap told_checked q })
-    go (RefusedBy r) q =
-        let low : CheckedIn (RefusedBy r) = subst CheckedIn q (checked-in b.format e b.body) in
+    go (Ok n) q = accepted (record { count = n; counts = ap told_checked q })
+    go (Err r) q =
+        let low : CheckedIn (Err r) = subst CheckedIn q (checked-in b.format e b.body) in
         let n = tabled image_numbers r.number refl low.number in
         refused r.number r.place.0 (record { refuses = ap told_checked q; some = λ z. absurd (omega (arith, n.0, z)) })
 

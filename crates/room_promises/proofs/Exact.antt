@@ -6,10 +6,8 @@ use mathlib.Core.List.{List, [], ◌∷◌, ◌++◌}
 use native.Mathlib.Omega.{arith}
 use lib.ListN.{length, length-append}
 use borrow.Author.Tests.{le-leb, lt-leb}
-use Rattle.layout.specs.declared.Checked.{Checked}
-use Rattle.layout.specs.declared.Checked.TheVariants.{Accepted, Refused as RefusedBy}
-use Rattle.layout.specs.declared.Located.{Located}
-use Rattle.layout.specs.declared.Located.TheVariants.{At, Nowhere}
+use Rattle.std.specs.Prelude.{Ok, Err}
+use Rattle.layout.specs.Answers.{Checked, Located}
 use Rattle.layout.specs.Bytes.{part_at, refusal}
 use Rattle.layout.specs.Each.{Each, none, also}
 use Rattle.layout.specs.Calls.{Told, told, told_checked, told_refusal, check_image}
@@ -33,8 +31,8 @@ refused-body : (e p : ℕ) (b : Board) (number place : ℕ) → Refused e b numb
 refused-body e p b number place r = go (check_image b.format e b.body) refl
   where
     go : (x : Checked) → check_image b.format e b.body ≡ x → body_allowed x p ≡ deniedBy (refusal number (p + place))
-    go (Accepted n) q = absurd (r.some (sym (ap (λ (t : Told). t.number) (sym (ap told_checked q) ∙ r.refuses))))
-    go (RefusedBy s) q =
+    go (Ok n) q = absurd (r.some (sym (ap (λ (t : Told). t.number) (sym (ap told_checked q) ∙ r.refuses))))
+    go (Err s) q =
         let same : told_refusal s ≡ told_refusal (refusal number place) = sym (ap told_checked q) ∙ r.refuses in
         ap₂ (λ (n k : ℕ). deniedBy (refusal n (p + k))) (ap (λ (t : Told). t.number) same) (ap (λ (t : Told). t.place) same)
 
@@ -72,8 +70,8 @@ new-body e brought b is number place r =
 
 -- the length of the body that stands for a number
 abbrev own_size : Located → ℕ
-own_size (At x) = x.len
-own_size (Nowhere r) = 0
+own_size (Ok x) = x.len
+own_size (Err r) = 0
 
 own-size : (n : ℕ) (before : List Board) (b : Board) (after : List Board) → b.number ≡ n → Rising 0 (before ++ (b ∷ after)) → own_size (body_at n 0 (before ++ (b ∷ after))) ≡ length b.body
 own-size n before b after same rises =

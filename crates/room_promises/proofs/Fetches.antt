@@ -7,8 +7,8 @@ use native.Mathlib.Omega.{arith}
 use lib.ListN.{length, length-take, length-append}
 use lib.Seq.{take_at, drop_at, drop-drop}
 use borrow.Author.Tests.{eq-eqb, ne_eqb}
+use Rattle.std.specs.Prelude.{Ok}
 use Rattle.layout.specs.declared.Part.{Part}
-use Rattle.layout.specs.declared.Located.TheVariants.{At}
 use Rattle.layout.specs.Bytes.{part, part_at, refusal}
 use Rattle.layout.specs.Each.{Each, also}
 use Rattle.layout.specs.Calls.{Told, told, told_located}
@@ -72,13 +72,13 @@ first-rises : (low : ℕ) (c : Board) (before : List Board) (b : Board) (after :
 first-rises low c before b after (next le rises) = each_first (each_right before (b ∷ after) (rising-absent c.number (c.number + 1) (before ++ (b ∷ after)) (omega arith) rises))
 
 pub body-here : (low p : ℕ) (before : List Board) (b : Board) (after : List Board) → Rising low (before ++ (b ∷ after)) →
-    body_at b.number p (before ++ (b ∷ after)) ≡ At (part_at (p + length (bodies_of before)) (length b.body))
+    body_at b.number p (before ++ (b ∷ after)) ≡ Ok (part_at (p + length (bodies_of before)) (length b.body))
 unfolding body_at bodies_of
-body-here low p [] b after rises = rw (eq-eqb b.number b.number refl) (ap (λ (k : ℕ). At (part_at k (length b.body))) (omega arith))
+body-here low p [] b after rises = rw (eq-eqb b.number b.number refl) (ap (λ (k : ℕ). Ok (part_at k (length b.body))) (omega arith))
 body-here low p (c ∷ before) b after (next le rises) =
     let other = ne_eqb b.number c.number (first-rises low c before b after (next le rises)) in
     let on : p + length c.body + length (bodies_of before) ≡ p + length (c.body ++ bodies_of before) = omega (arith, length-append c.body (bodies_of before)) in
-    rw other (body-here (c.number + 1) (p + length c.body) before b after rises ∙ ap (λ (k : ℕ). At (part_at k (length b.body))) on)
+    rw other (body-here (c.number + 1) (p + length c.body) before b after rises ∙ ap (λ (k : ℕ). Ok (part_at k (length b.body))) on)
 
 -- a body is not longer than all from it on
 first_body : (b : Board) (after : List Board) → length b.body ≤ length (bodies_of (b ∷ after))

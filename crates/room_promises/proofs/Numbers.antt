@@ -8,10 +8,8 @@ use native.Mathlib.Omega.{arith}
 use lib.ListN.{length, length-append}
 use lib.Dec.{ltb, leb, eqb}
 use borrow.Author.Tests.{leb-true, ltb-false, eq-eqb}
-use Rattle.layout.specs.declared.Checked.{Checked}
-use Rattle.layout.specs.declared.Checked.TheVariants.{Accepted, Refused}
-use Rattle.layout.specs.declared.Located.{Located}
-use Rattle.layout.specs.declared.Located.TheVariants.{At, Nowhere}
+use Rattle.std.specs.Prelude.{Ok, Err}
+use Rattle.layout.specs.Answers.{Checked, Located}
 use Rattle.layout.specs.Bytes.{one_of}
 use Rattle.layout.specs.Editions.{known_edition}
 use Rattle.layout.specs.Read.{limit}
@@ -71,8 +69,8 @@ module _ (numbers : List ℕ) (number : ℕ) (table : Table numbers number) wher
   near-body e p b le = go (check_image b.format e b.body) (checked-in b.format e b.body)
     where
       go : (x : Checked) → CheckedIn x → NearAsked (body_allowed x p)
-      go (Accepted n) l = tt
-      go (Refused r) l = table.image (record { number = l.number; place = omega (arith, le, l.place) })
+      go (Ok n) l = tt
+      go (Err r) l = table.image (record { number = l.number; place = omega (arith, le, l.place) })
 
   near-bodies : (e p : ℕ) (bs : List Board) → p + length (bodies_of bs) ≤ limit → NearAsked (judge_bodies e p bs)
   unfolding judge_bodies bodies_of
@@ -148,8 +146,8 @@ change-low n x c form e file out =
 -- ---- fetch
 
 abbrev pub FetchedLow : Located → Type 0
-FetchedLow (At x) = x.place.0 + x.len ≤ limit
-FetchedLow (Nowhere r) = Near (21 ∷ 22 ∷ image_numbers) r.number r.place.0
+FetchedLow (Ok x) = x.place.0 + x.len ≤ limit
+FetchedLow (Err r) = Near (21 ∷ 22 ∷ image_numbers) r.number r.place.0
 
 body_near : (n p : ℕ) (bs : List Board) → p + length (bodies_of bs) ≤ limit → FetchedLow (body_at n p bs)
 unfolding body_at bodies_of one_of

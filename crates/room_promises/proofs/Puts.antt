@@ -9,10 +9,8 @@ use lib.ListN.{length, drop, length-append}
 use lib.Seq.{take_at, drop_at}
 use lib.Dec.{ltb, leb}
 use borrow.Author.Tests.{ltb-false}
-use Rattle.layout.specs.declared.Made.{Made}
-use Rattle.layout.specs.declared.Made.TheVariants.{Wrote}
-use Rattle.layout.specs.declared.Located.{Located}
-use Rattle.layout.specs.declared.Located.TheVariants.{At, Nowhere}
+use Rattle.std.specs.Prelude.{Ok, Err}
+use Rattle.layout.specs.Answers.{Made, Located}
 use Rattle.layout.specs.Bytes.{between, all, refusal}
 use Rattle.layout.specs.Each.{Each, none, also}
 use Rattle.layout.specs.Editions.{known_edition}
@@ -43,7 +41,7 @@ use Rattle.room_promises.proofs.Numbers.{change_numbers, farthest_in_file, chang
 -- what a call that makes a file leaves: the output as it was, or an answer that is not refused
 data Leaves (out : List ℕ) : Outcome → Type 0 where
   left : (o : Outcome) → o.memory ≡ out → Leaves out o
-  wrote : (o : Outcome) (n : ℕ) → o.answer ≡ Wrote n → Leaves out o
+  wrote : (o : Outcome) (n : ℕ) → o.answer ≡ Ok n → Leaves out o
 
 leaves : (o : Opened) (asks : ℕ → List Board → Allowed) (form e n : ℕ) (new : List Board) (out : List ℕ) → Leaves out (change_opened o asks form e n new out)
 leaves (has_not r) asks form e n new out = left (refuse r out) refl
@@ -55,7 +53,7 @@ leaves (has bs) asks form e n new out = go (change_asks asks form e n new bs)
     go : (a : Allowed) → Leaves out (change_allowed a form (changed n new bs) out)
     go (denied r) = left (refuse r out) refl
     go allowed =
-        either (Leaves out) (leb (length file) (length out)) (λ _. wrote (record { answer = Wrote (length file); memory = file ++ drop (length file) out }) (length file) refl)
+        either (Leaves out) (leb (length file) (length out)) (λ _. wrote (record { answer = Ok (length file); memory = file ++ drop (length file) out }) (length file) refl)
         (λ _. left (refuse (refusal 12 0) out) refl)
 
 rooms-refused : (n : ℕ) (x : RoomChange) → Changes n x → (form e : ℕ) (file out : List ℕ) → IsRefused (tells x form e file out) → (x.call form e file out).memory ≡ out
@@ -174,8 +172,8 @@ rooms-taken n x c lt form e file out m by q =
 -- ---- numbers
 
 fetch-gives : (x : Located) → FetchedLow x → Gives (21 ∷ 22 ∷ image_numbers) (told_located x)
-fetch-gives (At x) l = taken
-fetch-gives (Nowhere r) l = refused l.number
+fetch-gives (Ok x) l = taken
+fetch-gives (Err r) l = refused l.number
 
 pub rooms-put : RoomsPut
 rooms-put =

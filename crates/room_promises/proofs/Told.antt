@@ -9,9 +9,8 @@ use native.Mathlib.Omega.{arith}
 use lib.ListN.{length, get_or, drop, length-append}
 use lib.Dec.{ltb, leb, eqb}
 use borrow.Author.Tests.{leb-true, leb-false, eqb-true, eqb-false, lt-ltb, le-ltb}
-use Rattle.layout.specs.declared.Made.TheVariants.{Wrote}
-use Rattle.layout.specs.declared.Located.{Located}
-use Rattle.layout.specs.declared.Located.TheVariants.{At}
+use Rattle.std.specs.Prelude.{Ok}
+use Rattle.layout.specs.Answers.{Located}
 use Rattle.layout.specs.Bytes.{if, part_at, refusal}
 use Rattle.layout.specs.Each.{Each, none, also}
 use Rattle.layout.specs.Editions.{known_edition}
@@ -112,7 +111,7 @@ pub data Comes (n : ℕ) (x : RoomChange) (form e : ℕ) (file out : List ℕ) (
   refused : (number place : ℕ) → Refusing number place → Comes n x form e file out Refusing (refuse (refusal number place) out)
   made : (bs : List Board) → RoomFile form e file bs → x.Asks bs → Each (Accepts e) x.brings → length (new_file n x form bs) ≤ length out →
       Comes n x form e file out Refusing
-      (record { answer = Wrote (length (new_file n x form bs)); memory = new_file n x form bs ++ drop (length (new_file n x form bs)) out })
+      (record { answer = Ok (length (new_file n x form bs)); memory = new_file n x form bs ++ drop (length (new_file n x form bs)) out })
 
 module _ {n : ℕ} (x : RoomChange) (k : Kind n x) (form e : ℕ) (file out : List ℕ) (by : Bytes file) where
   -- a refusal is a line of the table
@@ -201,7 +200,7 @@ record FoundAt (n p : ℕ) (bs : List Board) : Type 0 where
   after : List Board
   whole : bs ≡ before ++ (b ∷ after)
   is : b.number ≡ n
-  at : body_at n p bs ≡ At (part_at (p + length (bodies_of before)) (length b.body))
+  at : body_at n p bs ≡ Ok (part_at (p + length (bodies_of before)) (length b.body))
 
 found_at : (n p : ℕ) (bs : List Board) → Present n bs → FoundAt n p bs
 unfolding body_at bodies_of
@@ -209,7 +208,7 @@ found_at n p [] is = absurd (absent-present none is)
 found_at n p (b ∷ bs) is = go (eqb n b.number) refl (found_at n (p + length b.body) bs)
   where
     go : (t : Bool) → eqb n b.number ≡ t → (Present n bs → FoundAt n (p + length b.body) bs) → FoundAt n p (b ∷ bs)
-    go true q rest = record { before = []; b = b; after = bs; whole = refl; is = sym (eqb-true n b.number q); at = rw q (ap (λ (k : ℕ). At (part_at k (length b.body))) (omega arith)) }
+    go true q rest = record { before = []; b = b; after = bs; whole = refl; is = sym (eqb-true n b.number q); at = rw q (ap (λ (k : ℕ). Ok (part_at k (length b.body))) (omega arith)) }
     go false q rest =
         let r = rest (present-later n b bs (λ same. eqb-false n b.number q (sym same)) is) in
         let on : p + length b.body + length (bodies_of r.before) ≡ p + length (b.body ++ bodies_of r.before) = omega (arith, length-append b.body (bodies_of r.before)) in
@@ -219,7 +218,7 @@ found_at n p (b ∷ bs) is = go (eqb n b.number) refl (found_at n (p + length b.
           after = r.after;
           whole = ap (λ (x : List Board). b ∷ x) r.whole;
           is = r.is;
-          at = rw q (r.at ∙ ap (λ (k : ℕ). At (part_at k (length r.b.body))) on);
+          at = rw q (r.at ∙ ap (λ (k : ℕ). Ok (part_at k (length r.b.body))) on);
         }
 
 module _ (form e : ℕ) (file : List ℕ) (n : ℕ) (by : Bytes file) where
@@ -230,7 +229,7 @@ module _ (form e : ℕ) (file : List ℕ) (n : ℕ) (by : Bytes file) where
   fetch-found bs room is = let x = found_at n (8 + 8 * length bs) bs is in go x.before x.b x.after x.whole x.is x.at
     where
       go : (before : List Board) (b : Board) (after : List Board) → bs ≡ before ++ (b ∷ after) → b.number ≡ n →
-          body_at n (8 + 8 * length bs) bs ≡ At (part_at (8 + 8 * length bs + length (bodies_of before)) (length b.body)) → FetchLine (body_at n (8 + 8 * length bs) bs)
+          body_at n (8 + 8 * length bs) bs ≡ Ok (part_at (8 + 8 * length bs + length (bodies_of before)) (length b.body)) → FetchLine (body_at n (8 + 8 * length bs) bs)
       go before b after whole same at = rw (at, whole) (given before b after (subst (RoomFile form e file) whole room) same)
 
   fetch-asked : (bs : List Board) → IsFile form file bs → FetchLine (fetch_opened (has bs) form e n)

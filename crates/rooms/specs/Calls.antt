@@ -1,12 +1,9 @@
 -- The calls on a machine-room file: add, replace, remove and fetch a board (02, "Machine-room file").
 -- A body is judged by the check call alone (layout/specs/Calls.antt, `check_image`).
 -- Assumes nothing.
-use Rattle.std.specs.Prelude.{ℕ, ◌+◌, List, [], ◌∷◌, ◌++◌, ◌||◌, length, ltb, eqb}
+use Rattle.std.specs.Prelude.{ℕ, ◌+◌, List, [], ◌∷◌, ◌++◌, ◌||◌, length, ltb, eqb, Ok, Err}
 use Rattle.layout.specs.declared.Refusal.{Refusal}
-use Rattle.layout.specs.declared.Checked.{Checked}
-use Rattle.layout.specs.declared.Checked.TheVariants.{Accepted, Refused}
-use Rattle.layout.specs.declared.Located.{Located}
-use Rattle.layout.specs.declared.Located.TheVariants.{At, Nowhere}
+use Rattle.layout.specs.Answers.{Checked, Located}
 use Rattle.layout.specs.Bytes.{if, part_at, refusal}
 use Rattle.layout.specs.Editions.{known_edition}
 use Rattle.layout.specs.Read.{limit}
@@ -34,8 +31,8 @@ absent n (b ∷ bs) = if (eqb n b.number) (λ _. denied (refusal 23 0)) (λ _. a
 
 -- what the check of a body says, where places count from so many bytes before it
 abbrev pub body_allowed : Checked → ℕ → Allowed
-body_allowed (Accepted n) p = allowed
-body_allowed (Refused r) p = denied (refusal r.number (p + r.place.0))
+body_allowed (Ok n) p = allowed
+body_allowed (Err r) p = denied (refusal r.number (p + r.place.0))
 
 -- every body's own refusals by an edition, in order, where the first body stands at p
 unfoldable pub judge_bodies : ℕ → ℕ → List Board → Allowed
@@ -119,16 +116,16 @@ remove_board form e file n out = change_room present form e file n [] out
 
 -- the body of number n as a part of the file, where the first body stands at p
 unfoldable pub body_at : ℕ → ℕ → List Board → Located
-body_at n p [] = Nowhere (refusal 22 0)
-body_at n p (b ∷ bs) = if (eqb n b.number) (λ _. At (part_at p (length b.body))) (λ _. body_at n (p + length b.body) bs)
+body_at n p [] = Err (refusal 22 0)
+body_at n p (b ∷ bs) = if (eqb n b.number) (λ _. Ok (part_at p (length b.body))) (λ _. body_at n (p + length b.body) bs)
 
 abbrev pub fetch_allowed : Allowed → Located → Located
 fetch_allowed allowed x = x
-fetch_allowed (denied r) x = Nowhere r
+fetch_allowed (denied r) x = Err r
 
 abbrev pub fetch_opened : Opened → ℕ → ℕ → ℕ → Located
 fetch_opened (has bs) form e n = fetch_allowed (and_then (present n bs) (λ _. judge_stored form e bs)) (body_at n (bodies_at form (length bs)) bs)
-fetch_opened (has_not r) form e n = Nowhere r
+fetch_opened (has_not r) form e n = Err r
 
 -- 1, 2, 21, 22, the stored bodies' own
 unfoldable pub fetch_board : ℕ → ℕ → List ℕ → ℕ → Located

@@ -1,10 +1,9 @@
 -- The find: which row has a board (02, "Running total and quick fetch"). The sequence of its looks, and apart from it what a full pass over the boards gives.
 -- Assumes nothing.
-use Rattle.std.specs.Prelude.{ℕ, zero, suc, ◌+◌, ◌*◌, ◌-◌, ◌/◌, List, [], ◌∷◌, drop, ltb, eqb}
+use Rattle.std.specs.Prelude.{ℕ, zero, suc, ◌+◌, ◌*◌, ◌-◌, ◌/◌, List, [], ◌∷◌, drop, ltb, eqb, Ok, Err}
 use Rattle.layout.specs.Bytes.{if, refusal}
 use Rattle.layout.specs.Calls.{Told, told, told_refusal}
-use Rattle.rooms.specs.declared.Counted.{Counted}
-use Rattle.rooms.specs.declared.Counted.TheVariants.{Are, Uncounted}
+use Rattle.rooms.specs.Answers.{Counted}
 use Rattle.rooms.specs.File.{Board, rows_at, count_in, row_in, rows_inside}
 use Rattle.rooms.specs.Calls.{asked}
 
@@ -45,8 +44,8 @@ looks (passes k s) = k ∷ looks s
 
 -- the row that a search comes to, or 22
 unfoldable pub row_found : Search → Counted
-row_found over = Uncounted (refusal 22 0)
-row_found (finds k) = Are k 0
+row_found over = Err (refusal 22 0)
+row_found (finds k) = Ok (k, 0)
 row_found (passes k s) = row_found s
 
 -- ---- the call
@@ -62,14 +61,14 @@ search_file form file n = search (count_in file) (number_at form file) n 0 (coun
 -- 1, 2, 21, 22. 21 is for the head, the told form, a total that is cut and rows past the end, and for nothing else
 unfoldable pub find_board : ℕ → ℕ → List ℕ → ℕ → Counted
 find_board form e file n =
-    asked e file 0 Uncounted (λ _. if (rows_inside form file) (λ _. row_found (search_file form file n)) (λ _. Uncounted (refusal 21 0)))
+    asked e file 0 Err (λ _. if (rows_inside form file) (λ _. row_found (search_file form file n)) (λ _. Err (refusal 21 0)))
 
 -- ---- a full pass
 
 -- the first board of number n, where the first of these is board k
 unfoldable pub pass_from : ℕ → ℕ → List Board → Counted
-pass_from k n [] = Uncounted (refusal 22 0)
-pass_from k n (b ∷ bs) = if (eqb n b.number) (λ _. Are k 0) (λ _. pass_from (k + 1) n bs)
+pass_from k n [] = Err (refusal 22 0)
+pass_from k n (b ∷ bs) = if (eqb n b.number) (λ _. Ok (k, 0)) (λ _. pass_from (k + 1) n bs)
 
 abbrev pub full_pass : ℕ → List Board → Counted
 full_pass n bs = pass_from 0 n bs
@@ -78,5 +77,5 @@ full_pass n bs = pass_from 0 n bs
 
 -- the count, and the total in the place of a part's first byte
 abbrev pub told_counted : Counted → Told
-told_counted (Are n total) = told n (record { place = record { 0 = total }; len = 0 }) []
-told_counted (Uncounted r) = told_refusal r
+told_counted (Ok (n, total)) = told n (record { place = record { 0 = total }; len = 0 }) []
+told_counted (Err r) = told_refusal r

@@ -1,4 +1,5 @@
-pub mod File
-pub mod Grammar
+pub mod Answers
 pub mod Calls
+pub mod File
 pub mod Find
+pub mod Grammar

@@ -3,19 +3,22 @@
 use Prim.Native.Nat.{ℕ, zero, suc, ◌+◌, ◌≤◌, ◌<◌}
 use mathlib.Core.Path.{◌≡◌, refl, ap, sym, ◌∙◌}
 use mathlib.Core.List.{List, [], ◌∷◌, ◌++◌, append-nil}
-use mathlib.Core.Bool.{Bool, true, false, ◌&&◌}
+use mathlib.Core.Bool.{Bool, true, false}
 use native.Mathlib.Omega.{arith}
 use native.Mathlib.Numerals.{add-one}
 use lib.ListN.{length, get_or, set, take, drop, replicate, length-append, drop_of_length-le}
 use lib.Seq.{take_all, take-suc, drop-cons}
+use Rattle.std.specs.Prelude.{Some, None, Ok, Err}
+use Rattle.std.proofs.lemmas.Option.{none-some}
+use Rattle.layout.specs.Answers.{fault_told}
 use Rattle.layout.specs.declared.Field.{Field}
 use Rattle.layout.specs.declared.Format.{Format}
-use Rattle.layout.specs.Bytes.{if}
+use Rattle.layout.specs.Bytes.{if, refusal}
 use Rattle.layout.specs.Shape.{Shape, Label, fine}
 use Rattle.layout.specs.Editions.{shape, names}
 use Rattle.layout.specs.Walk.{Content, label_of}
-use Rattle.layout.specs.Read.{seen_before, or_else, complete}
-use Rattle.layout.specs.Write.{field_at, field_key, parts_inside, field_content, writer_rule, field_fault, judge_fields, contents_of, content_codes, entry_bytes, entries_bytes}
+use Rattle.layout.specs.Read.{or_else, complete}
+use Rattle.layout.specs.Write.{field_at, field_key, field_content, field_fault, judge_fields, contents_of, content_codes, entry_bytes, entries_bytes}
 use Rattle.laws.specs.Marked.{all_marked}
 use Rattle.layout.proofs.Lists.{joined-append}
 use Rattle.laws.proofs.Marks.{Marks, none-marked, one-marked, marked-complete}
@@ -25,48 +28,23 @@ use Rattle.keys.specs.Filter.{may_repeat, with_key}
 use Rattle.keys.proofs.Seen.{key_seen, Knows, none-known, one_known, unknown-unseen}
 use Rattle.output.specs.Lengths.{capped}
 use Rattle.output.proofs.Lengths.{capped-min}
-use Rattle.rules.specs.declared.Fields.TheVariants.{Sound, Unsound}
 use Rattle.rules.specs.Fields.{field_labels, soundness, judged_fields}
 
--- ---- the fault of one field, by the tests that lead to it
+-- ---- the fault of one field
 
-module _ (S : Shape) (e : ℕ) (values : List ℕ) (shut : Bool) (seen : List Label) (x : Field) where
-  pub fault-unnamed : names S e x.code ≡ false → field_fault S e values shut seen x ≡ 14
-  unfolding field_fault
-  fault-unnamed n = rw n
+-- a field without a fault has a code that the edition names
+fault-names : (S : Shape) (e : ℕ) (values : List ℕ) (shut : Bool) (seen : List Label) (x : Field) → field_fault S e values shut seen x ≡ 0 → names S e x.code ≡ true
+unfolding field_fault
+fault-names S e values shut seen x z = go (names S e x.code) refl
+  where
+    go : (t : Bool) → names S e x.code ≡ t → t ≡ true
+    go true n = refl
+    go false n = let h : 14 ≡ 0 = rw n at z in absurd (omega (arith, h))
 
-  pub fault-outside : names S e x.code ≡ true → parts_inside S.keyed x values ≡ false → field_fault S e values shut seen x ≡ 13
-  unfolding field_fault
-  fault-outside n p = rw (n, p)
-
-  pub fault-after : names S e x.code ≡ true → parts_inside S.keyed x values ≡ true → shut ≡ true → field_fault S e values shut seen x ≡ 9
-  unfolding field_fault
-  fault-after n p b = rw (n, p, b)
-
-  pub fault-rule : names S e x.code ≡ true → parts_inside S.keyed x values ≡ true → shut ≡ false → writer_rule S (field_content S values x) ≡ false →
-      field_fault S e values shut seen x ≡ 7
-  unfolding field_fault
-  fault-rule n p b r = rw (n, p, b, r)
-
-  -- `key` is the field's key, and `s` tells whether it was seen
-  pub fault-seen : names S e x.code ≡ true → parts_inside S.keyed x values ≡ true → shut ≡ false → writer_rule S (field_content S values x) ≡ true →
-      (key : List ℕ) → key ≡ field_key S.keyed x values → (s t : Bool) → s ≡ seen_before S seen (record { code = x.code; key = key }) → s ≡ t →
-      field_fault S e values shut seen x ≡ if {A = ℕ} t (λ _. 8) (λ _. 0)
-  unfolding field_fault
-  fault-seen n p b r key k s t q h = rw (n, p, b, r, ← k, ← q, h)
-
-  fault-names : field_fault S e values shut seen x ≡ 0 → names S e x.code ≡ true
-  fault-names z = go (names S e x.code) refl
-    where
-      go : (t : Bool) → names S e x.code ≡ t → t ≡ true
-      go true n = refl
-      go false n = absurd (omega (arith, fault-unnamed n))
-
--- the writer's rule, of its three parts
-pub rule-is : (S : Shape) (c : Content) (k l v : Bool) → k ≡ S.writer_key c.code c.key → l ≡ S.length_rule c.code (length c.value) →
-    v ≡ S.value_rule c.code c.value → k && l && v ≡ writer_rule S c
-unfolding writer_rule
-rule-is S c k l v p q r = rw (p, q, r)
+-- no fault was found: its number is 0
+none-found : (n : ℕ) → None ≡ fault_told n → n ≡ 0
+none-found zero p = refl
+none-found (suc n) p = absurd (none-some (suc n) p)
 
 -- ---- lengths
 
@@ -123,17 +101,17 @@ pub judging-first : (f : Format) (e : ℕ) (xs : List Field) (values words : Lis
 unfolding entries_bytes
 judging-first f e xs values words = record { bound = omega arith; is_marked = none-marked; is_known = none-known words; left = refl; counted = refl }
 
-sound-end : (b : Bool) (total n : ℕ) → total ≡ capped n → if b (λ _. Sound total) (λ _. Unsound 11 0) ≡ soundness fine b n
-sound-end true total n q = ap Sound q
-sound-end false total n q = refl
+sound-end : (b : Bool) (n : ℕ) → soundness fine b n ≡ if b (λ _. Ok (capped n)) (λ _. Err (refusal 11 0))
+sound-end true n = refl
+sound-end false n = refl
 
-module _ (f : Format) (e : ℕ) (xs : List Field) (values : List ℕ) (i : ℕ) (shut : Bool) (marks words : List ℕ) (total : ℕ) (w : Judging f e xs values i shut marks words total) where
+module _ {f : Format} {e : ℕ} {xs : List Field} {values : List ℕ} {i : ℕ} {shut : Bool} {marks words : List ℕ} {total : ℕ} (w : Judging f e xs values i shut marks words total) where
   abbrev seen : List Label
   seen = field_labels (shape f) values (take i xs)
 
   -- a key that the filter does not know was not seen
-  pub key-unseen : (x : Field) (known : Bool) → known ≡ may_repeat words x.code (field_key (shape f).keyed x values) → known ≡ false → key_seen seen (field_key (shape f).keyed x values) ≡ false
-  key-unseen x known q n = unknown-unseen seen words x.code (field_key (shape f).keyed x values) w.is_known (sym q ∙ n)
+  pub key-unseen : (x : Field) {known : Bool} → known ≡ may_repeat words x.code (field_key (shape f).keyed x values) → known ≡ false → key_seen seen (field_key (shape f).keyed x values) ≡ false
+  key-unseen x q n = unknown-unseen seen words x.code (field_key (shape f).keyed x values) w.is_known (sym q ∙ n)
 
   module _ (x : Field) (here : x ≡ get_or xs i (field_at [])) (lt : i < length xs) where
     past : take (i + 1) xs ≡ take i xs ++ (x ∷ [])
@@ -150,19 +128,25 @@ module _ (f : Format) (e : ℕ) (xs : List Field) (values : List ℕ) (i : ℕ) 
     judged-one = w.left ∙ ap (λ (l : List Field). judge_fields (shape f) e values shut seen l i) todo
 
     -- a fault ends the pass
-    pub judged-fault : (k : ℕ) → k ≡ field_fault (shape f) e values shut seen x → (k ≡ 0 → ⊥) → Unsound k i ≡ judged_fields f e xs values
+    pub judged-fault : {k : ℕ} → Some k ≡ fault_told (field_fault (shape f) e values shut seen x) → Err (refusal k i) ≡ judged_fields f e xs values
     unfolding judged_fields
-    judged-fault zero q z = absurd (z refl)
-    judged-fault (suc k) q z = rw (judged-one, ← q)
+    judged-fault {k} q = go (field_fault (shape f) e values shut seen x) refl q
+      where
+        go : (n : ℕ) → field_fault (shape f) e values shut seen x ≡ n → Some k ≡ fault_told n → Err (refusal k i) ≡ judged_fields f e xs values
+        go zero h p = absurd (none-some k (sym p))
+        go (suc n) h p = let same : k ≡ suc n = cc in rw (judged-one, h, same)
+
+    faultless : None ≡ fault_told (field_fault (shape f) e values shut seen x) → field_fault (shape f) e values shut seen x ≡ 0
+    faultless = none-found (field_fault (shape f) e values shut seen x)
 
     -- a field without a fault has a code that is a byte
-    pub fault-byte : (k : ℕ) → k ≡ field_fault (shape f) e values shut seen x → k ≡ 0 → x.code < 256
-    fault-byte k q z = named-byte f e x.code (fault-names (shape f) e values shut seen x (sym q ∙ z))
+    pub fault-byte : None ≡ fault_told (field_fault (shape f) e values shut seen x) → x.code < 256
+    fault-byte q = named-byte f e x.code (fault-names (shape f) e values shut seen x (faultless q))
 
     -- no fault, and the pass goes on
-    pub judging-on : (k : ℕ) → k ≡ field_fault (shape f) e values shut seen x → k ≡ 0 → (n : ℕ) → n ≡ capped (length (entry_bytes (shape f) (field_content (shape f) values x))) →
-        (m : ℕ) → m ≡ capped (total + n) → Judging f e xs values (i + 1) ((shape f).last x.code) (set marks x.code 1) (with_key words x.code (field_key (shape f).keyed x values)) m
-    judging-on k q z n nq m mq =
+    pub judging-on : None ≡ fault_told (field_fault (shape f) e values shut seen x) → {n : ℕ} → n ≡ capped (length (entry_bytes (shape f) (field_content (shape f) values x))) →
+        {m : ℕ} → m ≡ capped (total + n) → Judging f e xs values (i + 1) ((shape f).last x.code) (set marks x.code 1) (with_key words x.code (field_key (shape f).keyed x values)) m
+    judging-on q nq mq =
         let labels : field_labels (shape f) values (take (i + 1) xs) ≡ seen ++ (label_of (field_content (shape f) values x) ∷ [])
         = ap (field_labels (shape f) values) past ∙ labels-snoc (shape f) values (take i xs) x in
         let codes : label_codes (field_labels (shape f) values (take (i + 1) xs)) ≡ label_codes seen ++ (x.code ∷ []) = ap label_codes labels ∙ codes-snoc seen (label_of (field_content (shape f) values x)) in
@@ -171,19 +155,20 @@ module _ (f : Format) (e : ℕ) (xs : List Field) (values : List ℕ) (i : ℕ) 
         let sum : made (shape f) values (take (i + 1) xs) ≡ a + b = ap (made (shape f) values) past ∙ made-snoc (shape f) values (take i xs) x in
         record {
           bound = omega arith;
-          is_marked = rw codes (one-marked (label_codes seen) marks x.code (fault-byte k q z) w.is_marked);
+          is_marked = rw codes (one-marked (label_codes seen) marks x.code (fault-byte q) w.is_marked);
           is_known = rw labels (one_known seen words (label_of (field_content (shape f) values x)) w.is_known);
-          left = judged-one ∙ rw (← q, z) (ap (λ (l : List Label). judge_fields (shape f) e values ((shape f).last x.code) l (drop (i + 1) xs) (i + 1)) (sym labels));
+          left = judged-one ∙ rw (faultless q) (ap (λ (l : List Label). judge_fields (shape f) e values ((shape f).last x.code) l (drop (i + 1) xs) (i + 1)) (sym labels));
           counted = rw sum (mq ∙ rw (w.counted, nq) (capped-sum a b));
         }
 
   -- no field is left: the marks tell whether the fields are complete
-  pub judged-end : length xs ≤ i → (b : Bool) → b ≡ all_marked (shape f).required marks → if b (λ _. Sound total) (λ _. Unsound 11 0) ≡ judged_fields f e xs values
+  pub judged-end : length xs ≤ i → {b : Bool} → b ≡ all_marked (shape f).required marks → judged_fields f e xs values ≡ if b (λ _. Ok total) (λ _. Err (refusal 11 0))
   unfolding judged_fields judge_fields
-  judged-end le b q =
+  judged-end le {b} q =
       let all : take i xs ≡ xs = take_all i xs le in
       let none : judge_fields (shape f) e values false [] xs 0 ≡ fine = w.left ∙ ap (λ (l : List Field). judge_fields (shape f) e values shut seen l i) (drop_of_length-le xs le) in
       let codes : label_codes seen ≡ content_codes (contents_of (shape f) values xs) = ap (λ (l : List Field). label_codes (field_labels (shape f) values l)) all ∙ label-codes (shape f) values xs in
       let whole : b ≡ complete (shape f).required (content_codes (contents_of (shape f) values xs))
       = q ∙ marked-complete (shape f).required (label_codes seen) marks (required-bytes f) w.is_marked ∙ ap (complete (shape f).required) codes in
-      sound-end b total (made (shape f) values xs) (w.counted ∙ ap (λ (l : List Field). capped (made (shape f) values l)) all) ∙ rw (none, whole)
+      let cut : total ≡ capped (made (shape f) values xs) = w.counted ∙ ap (λ (l : List Field). capped (made (shape f) values l)) all in
+      rw (none, ← whole, cut) (sound-end b (made (shape f) values xs))

@@ -1,21 +1,24 @@
--- Whether one of the first n fields has code 01h and a key, as the loop over them looks for it.
+-- Whether one of the first n fields has code 01h and a key, as the loop over them looks for it; and what comes a second time by its code alone.
 -- Assumes nothing.
 use Prim.Native.Nat.{ℕ, suc, ◌+◌, ◌≤◌, ◌<◌}
-use mathlib.Core.Path.{◌≡◌, refl, ap, ◌∙◌}
+use mathlib.Core.Path.{◌≡◌, refl, ap, sym, ◌∙◌}
 use mathlib.Core.List.{List, []}
 use mathlib.Core.Bool.{Bool, true, false, ◌&&◌}
 use native.Mathlib.Omega.{arith}
+use borrow.Author.Tests.{eq-eqb, ne_eqb}
 use native.Mathlib.Numerals.{add-one}
 use lib.ListN.{length, get_or, take, drop, drop_of_length-le}
 use lib.Seq.{drop-cons, get_or-take, length-take-le}
 use lib.Dec.{eqb}
 use Rattle.layout.specs.declared.Field.{Field}
-use Rattle.layout.specs.declared.Format.TheVariants.{Vpd}
+use Rattle.layout.specs.declared.Format.{Format}
+use Rattle.layout.specs.declared.Format.TheVariants.{Fboss, Vpd, Tiny, Onie}
 use Rattle.layout.specs.Bytes.{if, same_bytes}
 use Rattle.layout.specs.Editions.{shape}
 use Rattle.layout.specs.Read.{seen_before}
 use Rattle.layout.specs.Walk.{label_of}
 use Rattle.layout.specs.Write.{field_at, field_key, field_content}
+use Rattle.laws.proofs.Seen.{AlwaysTwice, fboss-always, tiny-always}
 use Rattle.keys.proofs.Seen.{key-cons}
 use Rattle.rules.specs.Fields.{field_labels}
 
@@ -26,6 +29,15 @@ key_seen values key xs = seen_before (shape Vpd) (field_labels (shape Vpd) value
 -- a field has code 01h and this key
 abbrev pub key_has : List ℕ → List ℕ → Field → Bool
 key_has values key x = eqb 1 x.code && same_bytes key (field_key (shape Vpd).keyed x values)
+
+-- a field of this code has the key or not
+pub has-key : (values key : List ℕ) (x : Field) → x.code ≡ 1 → {other : List ℕ} → other ≡ field_key (shape Vpd).keyed x values →
+    {b s : Bool} → s ≡ same_bytes key other → s ≡ b → key_has values key x ≡ b
+has-key values key x n o q h = rw (eq-eqb 1 x.code (sym n), ← o, ← q) h
+
+-- a field of another code does not
+pub has-not : (values key : List ℕ) (x : Field) → (x.code ≡ 1 → ⊥) → key_has values key x ≡ false
+has-not values key x n = rw (ne_eqb 1 x.code (λ p. n (sym p)))
 
 -- the loop over the first n fields stands at i: what it looks for is looked for among those from i on
 pub Looking : (values key : List ℕ) (xs : List Field) (n i : ℕ) → Type 0
@@ -55,3 +67,10 @@ module _ (values key : List ℕ) (xs : List Field) (n i : ℕ) (le : n ≤ lengt
   pub look-over : n ≤ i → key_seen values key (take n xs) ≡ false
   unfolding Looking seen_before
   look-over ge = w ∙ ap (key_seen values key) (drop_of_length-le (take n xs) {i = i} (omega (arith, length-take-le n xs le)))
+
+-- outside VPD and ONIE two entries of one code always come twice
+pub plain-always : (f : Format) (code : ℕ) → (f ≡ Vpd → ⊥) → (f ≡ Onie → ⊥) → AlwaysTwice f code
+plain-always Fboss code v o = fboss-always code
+plain-always Vpd code v o = absurd (v refl)
+plain-always Tiny code v o = tiny-always code
+plain-always Onie code v o = absurd (o refl)

@@ -1,4 +1,5 @@
 pub mod Cutting
 pub mod Joining
 pub mod Making
+pub mod Matching
 pub mod Taking

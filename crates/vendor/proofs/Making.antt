@@ -8,10 +8,9 @@ use native.Mathlib.Omega.{arith}
 use lib.ListN.{length, take}
 use lib.Dec.{leb, eqb}
 use borrow.Author.Tests.{le-leb, lt-leb, eqb-true}
+use Rattle.std.specs.Prelude.{Ok, Some, None}
 use Rattle.layout.specs.declared.Format.{Format}
-use Rattle.layout.specs.declared.Chosen.TheVariants.{Known}
-use Rattle.layout.specs.declared.Made.TheVariants.{Wrote}
-use Rattle.layout.specs.Bytes.{if, all, part, refusal}
+use Rattle.layout.specs.Bytes.{if, all, refusal}
 use Rattle.layout.specs.Read.{limit}
 use Rattle.layout.specs.Write.{refuse, put_bytes}
 use Rattle.layout.proofs.Choices.{both}
@@ -22,13 +21,11 @@ use Rattle.blocks.specs.Payload.{front, payload_of, cut_into, sum, writable}
 use Rattle.blocks.specs.Vendor.{asked, write_vendor}
 use Rattle.blocks.proofs.Asking.{asked-short, write-asked}
 use Rattle.blocks.proofs.Lengths.{length_front, length-values}
-use Rattle.vendor.specs.declared.Pieces.TheVariants.{Right, Wrong}
 use Rattle.vendor.specs.Pieces.{counted_by}
 use Rattle.vendor.proofs.Taking.{joined-there}
 
 -- what comes before the check is read where it was put
 pub front-there : (d serial : List ℕ) (o : Offsets) → 12 + length serial ≤ length d → take (12 + length serial) (copied d 0 (front serial o)) ≡ front serial o
-unfolding part
 front-there d serial o le = joined-there d (front serial o) (12 + length serial) (sym (length_front serial o)) le
 
 -- ---- the values
@@ -44,7 +41,7 @@ module _ (serial : List ℕ) (o : Offsets) (pieces : List ℕ) (whole : sum piec
   values-short out lt = rw (lt-leb (length values) (length out) (omega (arith, long)))
 
   pub values-fit : (out : List ℕ) → 5 * length pieces + (16 + length serial) ≤ length out →
-      put_bytes values out ≡ record { answer = Wrote (5 * length pieces + (16 + length serial)); memory = copied out 0 values }
+      put_bytes values out ≡ record { answer = Ok (5 * length pieces + (16 + length serial)); memory = copied out 0 values }
   values-fit out le =
       let fits : length values ≤ length out = omega (arith, long) in
       rw (le-leb (length values) (length out) fits, copied-front out values fits, long)
@@ -52,7 +49,7 @@ module _ (serial : List ℕ) (o : Offsets) (pieces : List ℕ) (whole : sum piec
 -- ---- the call
 
 module _ (f e : ℕ) (serial : List ℕ) (o : Offsets) (pieces out : List ℕ) where
-  module _ (g : Format) (q : asked f e (length out) ≡ Known g) where
+  module _ (g : Format) (q : asked f e (length out) ≡ Ok g) where
     pub write-short : length out ≤ limit
     write-short = asked-short f e (length out) g q
 
@@ -66,10 +63,10 @@ module _ (f e : ℕ) (serial : List ℕ) (o : Offsets) (pieces out : List ℕ) w
       unfolding writable
       by-pieces b is = write-asked f e serial o pieces out g q ∙ rw (le-leb (length serial) 255 le, is)
 
-      pub write-wrong : counted_by pieces (16 + length serial) ≡ Wrong → write_vendor f e serial o pieces out ≡ refuse (refusal 18 0) out
+      pub write-wrong : counted_by pieces (16 + length serial) ≡ None → write_vendor f e serial o pieces out ≡ refuse (refusal 18 0) out
       write-wrong w = go (all (λ n. leb n 250) pieces && eqb (sum pieces) (16 + length serial)) refl w
         where
-          go : (b : Bool) → (all (λ n. leb n 250) pieces && eqb (sum pieces) (16 + length serial)) ≡ b → if b (λ _. Right (length pieces)) (λ _. Wrong) ≡ Wrong →
+          go : (b : Bool) → (all (λ n. leb n 250) pieces && eqb (sum pieces) (16 + length serial)) ≡ b → if b (λ _. Some (length pieces)) (λ _. None) ≡ None →
               write_vendor f e serial o pieces out ≡ refuse (refusal 18 0) out
           go true is w = let z : ◌≡◌ {A = ℕ} 0 1 = cc in absurd (omega arith)
           go false is w = by-pieces false is
@@ -80,9 +77,9 @@ module _ (f e : ℕ) (serial : List ℕ) (o : Offsets) (pieces out : List ℕ) w
         pub total : sum pieces ≡ 16 + length serial
         pub is : write_vendor f e serial o pieces out ≡ put_bytes (cut_into pieces (payload_of serial o)) out
 
-      pub write-right : (n : ℕ) → counted_by pieces (16 + length serial) ≡ Right n → Fitting n
+      pub write-right : (n : ℕ) → counted_by pieces (16 + length serial) ≡ Some n → Fitting n
       write-right n w = go (all (λ n. leb n 250) pieces && eqb (sum pieces) (16 + length serial)) refl w
         where
-          go : (b : Bool) → (all (λ n. leb n 250) pieces && eqb (sum pieces) (16 + length serial)) ≡ b → if b (λ _. Right (length pieces)) (λ _. Wrong) ≡ Right n → Fitting n
+          go : (b : Bool) → (all (λ n. leb n 250) pieces && eqb (sum pieces) (16 + length serial)) ≡ b → if b (λ _. Some (length pieces)) (λ _. None) ≡ Some n → Fitting n
           go true is w = record { count = cc; total = eqb-true (sum pieces) (16 + length serial) (both (all (λ n. leb n 250) pieces) (eqb (sum pieces) (16 + length serial)) is).1; is = by-pieces true is }
           go false is w = let z : ◌≡◌ {A = ℕ} 0 1 = cc in absurd (omega arith)

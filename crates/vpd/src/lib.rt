@@ -5,62 +5,56 @@ ghost use Rattle.std.specs.Prelude.{◌≡◌, ◌&&◌, ◌≤◌, ltb, length,
 ghost use Rattle.layout.specs.Bytes.{all};
 ghost use Rattle.layout.specs.Vpd.{groups, keyed_head, vpd_head, key_byte, vpd_reader_key, vpd_writer_key, vpd_rule};
 
-use layout::{Head, Headed, Length};
+use layout::Head;
 
 // The length that begins at `start`: seven bits a byte, at most four bytes.
-pub fn group_length(s: &[u8], start: usize) -> Length
+pub fn group_length(s: &[u8], start: usize) -> Result<(usize, usize), u32>
     ensures { result ≡ groups 4 0 start s.now }
 {
     let mut n: usize = 0;
     let mut at = start;
     for _ in 0u32..4 {
         if s.len() <= at {
-            return Length::Fails(5);
+            return Err(5);
         }
         let b = s[at];
         n = n * 128 + (b % 128) as usize;
         at += 1;
         if b < 128 {
-            return Length::Reads(n, at);
+            return Ok((n, at));
         }
     }
-    Length::Fails(6)
+    Err(6)
 }
 
 // The head of an entry of this code, whose key's length begins at 1.
-fn keyed_head(s: &[u8], code: u32) -> Headed
+fn keyed_head(s: &[u8], code: u32) -> Result<Option<Head>, u32>
     requires { (1 ≤ length s.now) × (code ≡ get_or s.now 0 0) }
     ensures { result ≡ keyed_head (groups 4 0 1 s.now) s.now }
 {
-    let l = group_length(s, 1);
-    match l {
-        Length::Reads(n, j) => {
-            if n <= s.len() - j {
-                Headed::Opens(Head {
-                    code: code,
-                    key: j,
-                    klen: n,
-                    at: j + n,
-                })
-            } else {
-                Headed::Wrong(5)
-            }
-        }
-        Length::Fails(k) => Headed::Wrong(k),
+    let (n, j) = group_length(s, 1)?;
+    if s.len() - j < n {
+        return Err(5);
     }
+    Ok(Some(Head {
+        code,
+        key: j,
+        klen: n,
+        at: j + n,
+    }))
 }
 
-pub fn vpd_head(s: &[u8]) -> Headed
+pub fn vpd_head(s: &[u8]) -> Result<Option<Head>, u32>
     ensures { result ≡ vpd_head s.now }
 {
     if s.len() <= 0 {
-        return Headed::Wrong(5);
+        return Err(5);
     }
     let code = s[0] as u32;
     match code {
-        0x00 | 0xFF => Headed::Ends,
+        0x00 | 0xFF => Ok(None),
         0x01 | 0xFE => keyed_head(s, code),
-        _ => Headed::Wrong(6),
+        _ => Err(6),
     }
 }
 
@@ -68,41 +62,28 @@ pub fn vpd_head(s: &[u8]) -> Headed
 fn key_rule(key: &[u8]) -> bool
     ensures { result ≡ (ltb 0 (length key.now) && all key_byte key.now) }
 {
-    if key.len() <= 0 {
-        return false;
-    }
-    let mut i = 0;
-    while i < key.len() {
-        let b = key[i];
-        if ((0x61 <= b) & (b <= 0x7A))
-            | ((0x41 <= b) & (b <= 0x5A))
-            | ((0x30 <= b) & (b <= 0x39))
-            | (b == 0x5F)
-        {
-            i += 1;
-        } else {
-            return false;
-        }
-    }
-    true
+    !key.is_empty() && key.iter().all(|b| b.is_ascii_alphanumeric() || *b == b'_')
 }
 
 // The writer's rule on a key.
+#[tactic(auto, unfolding(layout::specs::Vpd::vpd_writer_key))]
 pub fn vpd_writer_key(code: u32, key: &[u8]) -> bool
     ensures { result ≡ vpd_writer_key code key.now }
 {
-    if code == 0x01 { key_rule(key) } else { true }
+    code != 0x01 || key_rule(key)
 }
 
 // The reader's rule on a key: that of a 01h is not empty.
+#[tactic(auto, unfolding(layout::specs::Vpd::vpd_reader_key))]
 pub fn vpd_reader_key(code: u32, key: &[u8]) -> bool
     ensures { result ≡ vpd_reader_key code key.now }
 {
-    if code == 0x01 { 0 < key.len() } else { true }
+    code != 0x01 || !key.is_empty()
 }
 
+#[tactic(auto, unfolding(layout::specs::Vpd::vpd_rule))]
 pub fn vpd_rule(code: u32, v: &[u8]) -> bool
     ensures { result ≡ vpd_rule code v.now }
 {
-    if code == 0xFE { v.len() == 4 } else { true }
+    code != 0xFE || v.len() == 4
 }

@@ -10,8 +10,7 @@ ghost use Rattle.output.specs.Placing.{over};
 ghost use Rattle.writer.specs.Entries.{field_bytes, fields_bytes, Puttable, AllPuttable};
 ghost use Rattle.writer.specs.Gives.{Gives};
 
-use layout::{Chosen, Field, Format, Made, Place, Refusal};
-use rules::Fields;
+use layout::{Field, Format, Refusal};
 
 // The entry that a field makes, from `at` on; the place after it.
 fn put_field(out: &mut [u8], at: usize, format: Format, values: &[u8], x: Field) -> usize
@@ -19,13 +18,12 @@ fn put_field(out: &mut [u8], at: usize, format: Format, values: &[u8], x: Field)
     requires out_len_bound { (length out.old ≤ limit) × (at + length (field_bytes (shape format) values.now x) ≤ length out.old) }
     ensures { (result ≡ at + length (field_bytes (shape format) values.now x)) × (out.new ≡ over out.old at (field_bytes (shape format) values.now x)) }
 {
-    let code = x.code;
     let key = fields::field_key(format, values, x);
     let value = fields::field_value(values, x);
-    let next = at + output::opening_length(format, code, key);
-    output::put_opening(out, at, format, code, key);
-    output::put_value(out, next, format, code, value);
-    next + output::value_length(format, code, value.len())
+    let next = at + output::opening_length(format, x.code, key);
+    output::put_opening(out, at, format, x.code, key);
+    output::put_value(out, next, format, x.code, value);
+    next + output::value_length(format, x.code, value.len())
 }
 
 // The entries that the fields make, one after another from `start` on.
@@ -34,63 +32,61 @@ fn put_fields(out: &mut [u8], start: usize, format: Format, fields: &[u8], value
     requires out_len_bound { (length out.old ≤ limit) × (start + length (fields_bytes (shape format) values.now (fields_in fields.now)) ≤ length out.old) }
     ensures { out.new ≡ over out.old start (fields_bytes (shape format) values.now (fields_in fields.now)) }
 {
-    let n = fields::count_fields(fields);
     let mut at = start;
-    let mut i = 0;
-    while i < n {
-        let x = fields::field_at(fields, i);
-        at = put_field(out, at, format, values, x);
-        i += 1;
+    for i in 0..fields::count_fields(fields) {
+        at = put_field(out, at, format, values, fields::field_at(fields, i));
     }
 }
 
-fn refused(number: u32, place: usize) -> Made
-    ensures { result ≡ Made.Unwritten (record { number = number; place = record { 0 = place } }) }
-{
-    Made::Unwritten(Refusal {
-        number: number,
-        place: Place(place),
-    })
-}
-
 // The image of fields that keep the rules, where it fits; n is the length of its entries, cut off.
-fn put_image(out: &mut [u8], format: Format, fields: &[u8], values: &[u8], n: usize) -> Made
+fn put_image(
+    out: &mut [u8],
+    format: Format,
+    fields: &[u8],
+    values: &[u8],
+    n: usize,
+) -> Result<usize, Refusal>
     requires all_puttable { AllPuttable (shape format) values.now (fields_in fields.now) }
     requires out_len_bound { (length out.old ≤ limit) × (n ≡ capped (length (fields_bytes (shape format) values.now (fields_in fields.now)))) }
     ensures { Gives result out.new (put (shape format) (image_of (shape format) (fields_bytes (shape format) values.now (fields_in fields.now))) out.old) }
 {
-    if output::fits(format, n, out.len()) {
-        put_fields(out, output::header_length(format), format, fields, values);
-        output::finish(out, format, n);
-        return Made::Wrote(output::image_length(format, n));
+    if !output::fits(format, n, out.len()) {
+        return Err(Refusal::from(12));
     }
-    refused(12, 0)
+    put_fields(out, output::header_length(format), format, fields, values);
+    output::finish(out, format, n);
+    Ok(output::image_length(format, n))
 }
 
 // The image of a field list in a known format, into an output that is not too long.
-fn write_as(out: &mut [u8], format: Format, edition: u32, fields: &[u8], values: &[u8]) -> Made
+fn write_as(
+    out: &mut [u8],
+    format: Format,
+    edition: u32,
+    fields: &[u8],
+    values: &[u8],
+) -> Result<usize, Refusal>
     requires { length out.old ≤ limit }
     ensures { Gives result out.new (write_as format edition (fields_in fields.now) values.now out.old) }
 {
-    let j = rules::judge_fields(format, edition, fields, values);
-    match j {
-        Fields::Unsound(k, i) => refused(k, i),
-        Fields::Sound(n) => put_image(out, format, fields, values, n),
-    }
+    let n = rules::judge_fields(format, edition, fields, values)?;
+    put_image(out, format, fields, values, n)
 }
 
 // The image of a field list, into the output; a refusal leaves the output as it was.
-pub fn write_image(out: &mut [u8], format: u32, edition: u32, fields: &[u8], values: &[u8]) -> Made
+#[tactic(auto, unfolding(layout::specs::Write::write_image))]
+pub fn write_image(
+    out: &mut [u8],
+    format: u32,
+    edition: u32,
+    fields: &[u8],
+    values: &[u8],
+) -> Result<usize, Refusal>
     ensures { (result ≡ (write_image format edition (fields_in fields.now) values.now out.old).answer) × (out.new ≡ (write_image format edition (fields_in fields.now) values.now out.old).memory) }
 {
-    let c = frames::choose(format, edition);
-    match c {
-        Chosen::Unknown(k) => refused(k, 0),
-        Chosen::Known(f) => {
-            if 65536 < out.len() {
-                return refused(2, 0);
-            }
-            write_as(out, f, edition, fields, values)
-        }
+    let chosen = frames::choose(format, edition)?;
+    if 65536 < out.len() {
+        return Err(Refusal::from(2));
     }
+    write_as(out, chosen, edition, fields, values)
 }

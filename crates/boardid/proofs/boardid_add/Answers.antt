@@ -3,4 +3,4 @@
 use Rattle.boardid.proofs.boardid_add.Goals as goal
 
 pub returns : goal.returns
-returns c = (rw (← c.add_field.ensures.0) c.pack_made.ensures, c.add_field.ensures.1)
+returns c = (rw (← c.add_field.ensures.0) c.pack_answer.ensures.made, c.add_field.ensures.1)

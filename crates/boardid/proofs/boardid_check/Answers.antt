@@ -3,4 +3,4 @@
 use Rattle.boardid.proofs.boardid_check.Goals as goal
 
 pub returns : goal.returns
-returns c = rw (← c.check_image.ensures) c.pack_checked.ensures
+returns c = rw (← c.check_image.ensures) c.pack_answer.ensures.checked

@@ -3,4 +3,4 @@
 use Rattle.boardid.proofs.boardid_edit.Goals as goal
 
 pub returns : goal.returns
-returns c = (rw (← c.edit_entry.ensures.0) c.pack_made.ensures, c.edit_entry.ensures.1)
+returns c = (rw (← c.edit_entry.ensures.0) c.pack_answer.ensures.made, c.edit_entry.ensures.1)

@@ -3,4 +3,4 @@
 use Rattle.boardid.proofs.boardid_room_remove.Goals as goal
 
 pub returns : goal.returns
-returns c = (rw (← c.remove_board.ensures.0) c.pack_made.ensures, c.remove_board.ensures.1)
+returns c = (rw (← c.remove_board.ensures.0) c.pack_answer.ensures.made, c.remove_board.ensures.1)

@@ -3,4 +3,4 @@
 use Rattle.boardid.proofs.boardid_write.Goals as goal
 
 pub returns : goal.returns
-returns c = (rw (← c.write_image.ensures.0) c.pack_made.ensures, c.write_image.ensures.1)
+returns c = (rw (← c.write_image.ensures.0) c.pack_answer.ensures.made, c.write_image.ensures.1)

@@ -9,24 +9,21 @@ use Rattle.boardid.proofs.put_records.Goals as goal
 pub loop-s-init : goal.loop-s-init
 loop-s-init c = let a = c.args in filling-starts a.format a.edition a.image.now a.start a.end _ (search rules)
 
-pub shape_of-out-in-Over : goal.shape_of-out-in-Over
-shape_of-out-in-Over c = filling-length _ _ _ _ _ (search rules) c.loop-s.invariant
-
-pub returns-in-Over : goal.returns-in-Over
-returns-in-Over c = let a = c.args in
-    filling-over a.format a.edition a.image.now a.start a.end (search rules) c.loop-s.invariant (sym c.entry_here-x.ensures ∙ c.in-Over.is)
+pub returns : goal.returns
+returns c = let a = c.args in
+    filling-over a.format a.edition a.image.now a.start a.end (search rules) c.loop-s.invariant (sym c.entry_here.ensures ∙ c.in_default.is)
 
 pub overflow_add-at : goal.overflow_add-at
 overflow_add-at c = let a = c.args in
-    let g = filling-goes a.format a.edition a.image.now a.start a.end (search rules) c.loop-s.invariant c.in-Stands.s c.put_record.new.out (sym c.entry_here-x.ensures ∙ c.in-Stands.is) c.put_record.ensures in
+    let g = filling-goes a.format a.edition a.image.now a.start a.end (search rules) c.loop-s.invariant c.in-Some.s c.put_record.new.out (sym c.entry_here.ensures ∙ c.in-Some.is) c.put_record.ensures in
     omega (arith, g.low)
 
 pub loop-s-smaller : goal.loop-s-smaller
 loop-s-smaller c = let a = c.args in
-    let g = filling-goes a.format a.edition a.image.now a.start a.end (search rules) c.loop-s.invariant c.in-Stands.s c.put_record.new.out (sym c.entry_here-x.ensures ∙ c.in-Stands.is) c.put_record.ensures in
+    let g = filling-goes a.format a.edition a.image.now a.start a.end (search rules) c.loop-s.invariant c.in-Some.s c.put_record.new.out (sym c.entry_here.ensures ∙ c.in-Some.is) c.put_record.ensures in
     omega (arith, g.further, g.bound)
 
 pub loop-s-preserved : goal.loop-s-preserved
 loop-s-preserved c = let a = c.args in
-    let g = filling-goes a.format a.edition a.image.now a.start a.end (search rules) c.loop-s.invariant c.in-Stands.s c.put_record.new.out (sym c.entry_here-x.ensures ∙ c.in-Stands.is) c.put_record.ensures in
+    let g = filling-goes a.format a.edition a.image.now a.start a.end (search rules) c.loop-s.invariant c.in-Some.s c.put_record.new.out (sym c.entry_here.ensures ∙ c.in-Some.is) c.put_record.ensures in
     g.on

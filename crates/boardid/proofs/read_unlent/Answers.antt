@@ -8,19 +8,19 @@ use Rattle.records.specs.Exports.{unlent}
 use Rattle.boardid.proofs.Vendor.{unlent-unasked, unlent-alike}
 use Rattle.boardid.proofs.read_unlent.Goals as goal
 
-pub returns-in-Unknown : goal.returns-in-Unknown
-returns-in-Unknown c = λ buffer long. let a = c.args in c.pack_refusal.ensures ∙ ap (λ (r : Refusal). packed (told_refusal r)) (unlent-unasked a.format a.edition a.image.now a.lent buffer long _ (sym c.ask-a.ensures ∙ c.in-Unknown.is))
+pub returns-in-Err : goal.returns-in-Err
+returns-in-Err c = λ buffer long. let a = c.args in c.from.ensures ∙ (unlent-unasked a.format a.edition a.image.now a.lent buffer long _ (sym c.ask.ensures ∙ c.in-Err.is))
 
-pub returns-in-Unread : goal.returns-in-Unread
-returns-in-Unread c = λ buffer long.
+pub returns-in-Err-read_vendor : goal.returns-in-Err-read_vendor
+returns-in-Err-read_vendor c = λ buffer long.
     let a = c.args in
-    let asks = sym c.ask-a.ensures ∙ c.in-Known.is in
-    let reads = sym c.in-Unread.is ∙ c.read_vendor-v.ensures.0 in
-    c.pack_refusal-in-Unread.ensures ∙ ap (λ (r : Refusal). packed (told_refusal r)) (ap unlent reads ∙ unlent-alike a.format a.edition a.image.now a.lent buffer long _ asks)
+    let asks = sym c.ask.ensures ∙ c.in-Ok.is in
+    let reads = sym c.in-Err-read_vendor.is ∙ c.read_vendor.ensures.0 in
+    (ap unlent reads ∙ unlent-alike a.format a.edition a.image.now a.lent buffer long _ asks)
 
-pub returns-in-Tells : goal.returns-in-Tells
-returns-in-Tells c = λ buffer long.
+pub returns-in-Ok-read_vendor : goal.returns-in-Ok-read_vendor
+returns-in-Ok-read_vendor c = λ buffer long.
     let a = c.args in
-    let asks = sym c.ask-a.ensures ∙ c.in-Known.is in
-    let reads = sym c.in-Tells.is ∙ c.read_vendor-v.ensures.0 in
-    c.no_room.ensures ∙ ap (λ (r : Refusal). packed (told_refusal r)) (ap unlent reads ∙ unlent-alike a.format a.edition a.image.now a.lent buffer long _ asks)
+    let asks = sym c.ask.ensures ∙ c.in-Ok.is in
+    let reads = sym c.in-Ok-read_vendor.is ∙ c.read_vendor.ensures.0 in
+    c.from-in-Ok-read_vendor.ensures ∙ (ap unlent reads ∙ unlent-alike a.format a.edition a.image.now a.lent buffer long _ asks)

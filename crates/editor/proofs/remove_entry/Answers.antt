@@ -1,31 +1,86 @@
--- `editor::remove_entry` meets its contract: the image that is taken, and the entry that is found in it.
+-- `editor::remove_entry` meets its contract: the image that is taken, the entry that is found in it, 14, 11, and the image of the other entries.
 -- Assumes nothing.
-use mathlib.Core.Path.{ap, sym, ◌∙◌}
+use mathlib.Core.Path.{sym, ◌∙◌}
+use native.Mathlib.Omega.{arith}
 use lib.ListN.{length}
-use Rattle.layout.specs.Write.{Outcome}
+use Rattle.layout.specs.Bytes.{part}
 use Rattle.layout.specs.Remove.{removal}
-use Rattle.layout.proofs.Outcomes.{outcome}
-use Rattle.editor.proofs.Changes.{taken_is, change-refused, remove-nowhere, remove-here}
+use Rattle.layout.proofs.Outcomes.{outcome, outcome-as}
+use Rattle.layout.proofs.Passed.{passed}
+use Rattle.editor.proofs.Changes.{taken_is, change-refused, here-within, remove-nowhere, remove-unnamed, remove-required, remove-put}
 use Rattle.editor.proofs.remove_entry.Goals as goal
 
-pub remove_at-requires : goal.remove_at-requires
-remove_at-requires c = let a = c.args in
-    let taken = sym c.take_for-t.ensures ∙ c.in-Is.is in (
-      (taken_is (length a.out.now) a.format a.edition a.image.now taken).0,
-      (remove-here a.format a.edition a.image.now a.out.now _ taken a.i _ _ (sym c.find_frame-spot.ensures ∙ c.in-At.is)).0,
-    )
+pub returns-in_err-room : goal.returns-in_err-room
+returns-in_err-room c = let a = c.args in
+    rw (passed c.from_residual.result c.from_residual.ensures.1) (outcome (change-refused (removal a.i) a.format a.edition a.image.now a.out.now c.in_err-room.field-0.0 (sym c.take_for.ensures ∙ c.in_err-room.was)))
 
-pub returns-in-Isnt : goal.returns-in-Isnt
-returns-in-Isnt c = let a = c.args in
-    outcome (change-refused (removal a.i) a.format a.edition a.image.now a.out.now _ (sym c.take_for-t.ensures ∙ c.in-Isnt.is))
+pub returns-in_default : goal.returns-in_default
+returns-in_default c = let a = c.args in
+    let taken = sym c.take_for.ensures ∙ c.in_ok-room.was in
+    rw c.from.ensures (outcome (remove-nowhere a.format a.edition a.image.now a.out.now _ taken a.i (sym c.find_frame.ensures ∙ c.in_default.is)))
 
-pub returns-in-Nowhere : goal.returns-in-Nowhere
-returns-in-Nowhere c = let a = c.args in
-    let taken = sym c.take_for-t.ensures ∙ c.in-Is.is in
-    rw c.refused.ensures (outcome (remove-nowhere a.format a.edition a.image.now a.out.now _ taken a.i (sym c.find_frame-spot.ensures ∙ c.in-Nowhere.is)))
+pub returns-then-not-is_named : goal.returns-then-not-is_named
+returns-then-not-is_named c = let a = c.args in
+    let taken = sym c.take_for.ensures ∙ c.in_ok-room.was in
+    let spot = sym c.find_frame.ensures ∙ c.in-Some.is in
+    rw c.at.ensures (outcome (remove-unnamed a.format a.edition a.image.now a.out.now _ taken a.i spot (sym c.is_named.ensures ∙ c.if-not-is_named.true)))
 
-pub returns-in-At : goal.returns-in-At
-returns-in-At c = let a = c.args in
-    let taken = sym c.take_for-t.ensures ∙ c.in-Is.is in
-    let q = (remove-here a.format a.edition a.image.now a.out.now _ taken a.i _ _ (sym c.find_frame-spot.ensures ∙ c.in-At.is)).1 in
-    (c.remove_at.ensures.value ∙ sym (ap (λ (x : Outcome). x.answer) q), c.remove_at.ensures.out_after ∙ sym (ap (λ (x : Outcome). x.memory) q))
+pub returns-then-is_required : goal.returns-then-is_required
+returns-then-is_required c = let a = c.args in
+    let taken = sym c.take_for.ensures ∙ c.in_ok-room.was in
+    let spot = sym c.find_frame.ensures ∙ c.in-Some.is in
+    rw c.from-then-is_required.ensures (outcome (remove-required a.format a.edition a.image.now a.out.now _ taken a.i spot (sym c.is_named.ensures ∙ c.if-not-is_named.false) (sym c.is_required.ensures ∙ c.if-is_required.true)))
+
+pub slice_bounds-entries-count : goal.slice_bounds-entries-count
+slice_bounds-entries-count c = let a = c.args in
+    let taken = sym c.take_for.ensures ∙ c.in_ok-room.was in
+    let w = here-within a.format a.edition a.image.now a.out.now _ taken a.i _ _ (sym c.find_frame.ensures ∙ c.in-Some.is) in
+    omega (arith, w.begins, w.opens, w.ends, w.inside, c.well_formed)
+
+pub slice_bounds-entries-start : goal.slice_bounds-entries-start
+slice_bounds-entries-start c = let a = c.args in
+    let taken = sym c.take_for.ensures ∙ c.in_ok-room.was in
+    let w = here-within a.format a.edition a.image.now a.out.now _ taken a.i _ _ (sym c.find_frame.ensures ∙ c.in-Some.is) in
+    omega (arith, w.begins, w.opens, w.ends, w.inside, c.well_formed)
+
+pub slice_bounds-entries-end : goal.slice_bounds-entries-end
+slice_bounds-entries-end c = let a = c.args in
+    let taken = sym c.take_for.ensures ∙ c.in_ok-room.was in
+    let w = here-within a.format a.edition a.image.now a.out.now _ taken a.i _ _ (sym c.find_frame.ensures ∙ c.in-Some.is) in
+    omega (arith, w.begins, w.opens, w.ends, w.inside, c.well_formed)
+
+pub overflow_add-entries : goal.overflow_add-entries
+overflow_add-entries c = let a = c.args in
+    let taken = sym c.take_for.ensures ∙ c.in_ok-room.was in
+    let w = here-within a.format a.edition a.image.now a.out.now _ taken a.i _ _ (sym c.find_frame.ensures ∙ c.in-Some.is) in
+    omega (arith, w.begins, w.opens, w.ends, w.inside, c.well_formed)
+
+pub slice_bounds-entries-count-2 : goal.slice_bounds-entries-count-2
+slice_bounds-entries-count-2 c = let a = c.args in
+    let taken = sym c.take_for.ensures ∙ c.in_ok-room.was in
+    let w = here-within a.format a.edition a.image.now a.out.now _ taken a.i _ _ (sym c.find_frame.ensures ∙ c.in-Some.is) in
+    omega (arith, w.begins, w.opens, w.ends, w.inside, c.well_formed)
+
+pub slice_bounds-entries-start-2 : goal.slice_bounds-entries-start-2
+slice_bounds-entries-start-2 c = let a = c.args in
+    let taken = sym c.take_for.ensures ∙ c.in_ok-room.was in
+    let w = here-within a.format a.edition a.image.now a.out.now _ taken a.i _ _ (sym c.find_frame.ensures ∙ c.in-Some.is) in
+    omega (arith, w.begins, w.opens, w.ends, w.inside, c.well_formed)
+
+pub slice_bounds-entries-end-2 : goal.slice_bounds-entries-end-2
+slice_bounds-entries-end-2 c = let a = c.args in
+    let taken = sym c.take_for.ensures ∙ c.in_ok-room.was in
+    let w = here-within a.format a.edition a.image.now a.out.now _ taken a.i _ _ (sym c.find_frame.ensures ∙ c.in-Some.is) in
+    omega (arith, w.begins, w.opens, w.ends, w.inside, c.well_formed)
+
+pub put-requires : goal.put-requires
+put-requires c = let a = c.args in
+    let taken = sym c.take_for.ensures ∙ c.in_ok-room.was in
+    ((taken_is (length a.out.now) a.format a.edition a.image.now taken).0, tt)
+
+pub returns : goal.returns
+unfolding part
+returns c = let a = c.args in
+    let taken = sym c.take_for.ensures ∙ c.in_ok-room.was in
+    let spot = sym c.find_frame.ensures ∙ c.in-Some.is in
+    outcome-as c.put.ensures (remove-put a.format a.edition a.image.now a.out.now _ taken a.i spot (sym c.is_named.ensures ∙ c.if-not-is_named.false) (sym c.is_required.ensures ∙ c.if-is_required.false))

@@ -11,5 +11,5 @@ returns-then-i-fields c = let a = c.args in
     rw (c.word_at.ensures, c.part_at.ensures, c.part_at-then-i-fields.ensures)
     (sym (field-there a.fields.now a.i (search rules) ∙ field-words (a.i * 20) a.fields.now))
 
-pub returns : goal.returns
-returns c = let a = c.args in sym (field-not a.fields.now a.i (search rules))
+pub returns-else-i-fields : goal.returns-else-i-fields
+returns-else-i-fields c = let a = c.args in sym (field-not a.fields.now a.i (search rules))

@@ -1,16 +1,13 @@
--- `keys::hash_key` meets its contract: it takes in each byte.
+-- `keys::hash_key` meets its contract: the chain takes in each byte.
 -- Assumes nothing.
+use mathlib.Core.Path.{◌∙◌}
 use borrow.Author.Rules.{rules}
-use Rattle.keys.specs.Filter.{hashed}
-use Rattle.keys.proofs.Hashing.{turn, over}
+use Rattle.std.proofs.lemmas.Iterator.{YieldsList-from_slice}
+use Rattle.std.proofs.lemmas.Iterator.Consumers.{fold_from_yields_List}
+use Rattle.keys.specs.Filter.{hash_byte, hashed}
+use Rattle.keys.proofs.Hashing.{hash_fold}
 use Rattle.keys.proofs.hash_key.Goals as goal
 
-pub loop-i-init : goal.loop-i-init
-unfolding hashed
-loop-i-init c = search rules
-
-pub loop-i-preserved : goal.loop-i-preserved
-loop-i-preserved c = turn _ _ _ c.loop-i.invariant _ (search rules) c.hash_byte-h.ensures
-
 pub returns : goal.returns
-returns c = over _ _ _ c.loop-i.invariant (search rules)
+unfolding hashed
+returns c = fold_from_yields_List _ hash_byte 5 _ c.fold.ensures.ran (YieldsList-from_slice c.args.key.now cc) (λ h b r q k. search rules) ∙ hash_fold 5 c.args.key.now

@@ -9,8 +9,8 @@ use Rattle.keys.proofs.Hashing.{product-most, word_in}
 use Rattle.keys.proofs.word_at.Goals as goal
 
 pub overflow_mul-result : goal.overflow_mul-result
-overflow_mul-result c = record { fits = omega (arith, product-most c.args.h (c.args.n % 65536) (search rules)) }
+overflow_mul-result c = record { fits = omega (arith, product-most c.from.result (c.args.n % 65536) (search rules)) }
 
 pub returns : goal.returns
 unfolding word_at
-returns c = (refl, word_in c.args.n c.args.h (search rules) (search rules))
+returns c = rw c.from.ensures (refl, word_in c.args.n c.args.h (search rules) (search rules))

@@ -1,58 +1,53 @@
--- `listing::list_entries` meets its contract: each turn fills the record at i with the entry that the cursor shows, and the cursor goes on.
+-- `listing::list_entries` meets its contract: a refusal, too few records, or all entries.
 -- Assumes nothing.
-use Rattle.std.proofs.Common.{◌≡◌, ℕ, ◌+◌, ◌<◌, ◌≤◌, List, length, slice_set, refl, sym, ap, ap₂, ◌∙◌, arith, add-one}
+use mathlib.Core.Path.{◌≡◌, ap, sym, ◌∙◌}
+use mathlib.Core.List.{List, ◌++◌}
+use native.Mathlib.Omega.{arith}
+use borrow.Author.Rules.{rules}
+use lib.ListN.{drop, length-take}
+use Rattle.std.specs.Prelude.{Ok, Err}
 use Rattle.layout.specs.declared.Entry.{Entry}
-use Rattle.accept.specs.declared.Taken.{Taken}
+use Rattle.layout.specs.declared.Refusal.{Refusal}
+use Rattle.layout.specs.Calls.{Listed}
+use Rattle.layout.proofs.Passed.{passed}
 use Rattle.accept.specs.Taken.{taken}
-use Rattle.listing.specs.declared.Cursor.{Cursor}
-use Rattle.listing.specs.Cursors.{fitting, answering, beginning, showing, onward, stepped, from, filled}
-use Rattle.listing.proofs.Replaced.{grows}
-use Rattle.listing.proofs.Stepping.{shown_by, fits, lists-all}
+use Rattle.listing.proofs.Filling.{filling-starts, filling-goes, filling-over, filling-full}
+use Rattle.listing.proofs.Giving.{list-refused, list-given, list-short, list-fills}
 use Rattle.listing.proofs.list_entries.Goals as goal
 
-stepped-more : (c : Cursor) (image : List ℕ) (i : ℕ) → stepped c image (i + 1) ≡ onward (stepped c image i) image
-unfolding stepped
-stepped-more c image i = rw add-one
+pub returns-in_err-room : goal.returns-in_err-room
+returns-in_err-room c = let a = c.args in
+    let q : taken a.format a.edition a.image.now ≡ Err c.in_err-room.field-0.0 = search rules in
+    let z = list-refused a.format a.edition a.image.now a.records.now q in
+    (passed c.from_residual.result c.from_residual.ensures.1 ∙ sym (ap (λ (x : Listed). x.answer) z), sym (ap (λ (x : Listed). x.records) z))
 
-filled-more : (f : ℕ → Entry) (i : ℕ) (xs : List Entry) → i < length xs → slice_set (filled f i xs) i (f i) ≡ filled f (i + 1) xs
-filled-more f i xs lt = grows f i xs lt ∙ ap (λ (k : ℕ). filled f k xs) (sym (add-one i))
+pub returns-then-records-room : goal.returns-then-records-room
+returns-then-records-room c = let a = c.args in
+    let q : taken a.format a.edition a.image.now ≡ Ok c.in_ok-room.room = search rules in
+    let z = list-short a.format a.edition a.image.now a.records.now q c.if-records-room.true in
+    (ap (λ (r : Refusal). Err r) c.from.ensures ∙ sym (ap (λ (x : Listed). x.answer) z), sym (ap (λ (x : Listed). x.records) z))
 
-pub loop-i-init : goal.loop-i-init
-unfolding stepped filled from
-loop-i-init c =
-    let a = c.args in
-    record {
-      in_range = omega arith;
-      cursor = c.start_of-c.ensures ∙ ap (λ (t : Taken). beginning t a.edition a.image.now) c.take-t.ensures;
-      records = refl;
-    }
+pub loop-record-init : goal.loop-record-init
+loop-record-init c = let a = c.args in
+    let q : taken a.format a.edition a.image.now ≡ Ok c.in_ok-room.room = search rules in
+    filling-starts _ _ _ _ _ _ (list-given a.format a.edition a.image.now a.records.now q).done
 
-pub loop-i-preserved : goal.loop-i-preserved
-loop-i-preserved c =
-    let a = c.args in
-    let l = c.loop-i in
-    let shown : ℕ → Entry = shown_by a.format a.edition a.image.now in
-    let room : c.fit_of-n.result ≤ length a.records.now = rw c.fit_of-n.ensures (fits c.take-t.result (length a.records.now)) in
-    record {
-      in_range = omega arith;
-      cursor =
-          c.step_list-c.ensures
-          ∙ ap (λ (d : Cursor). onward d a.image.now) l.invariant.cursor
-          ∙ sym (stepped-more (beginning (taken a.format a.edition a.image.now) a.edition a.image.now) a.image.now l.i);
-      records =
-          ap₂ (λ (xs : List Entry) (x : Entry). slice_set xs l.i x) l.invariant.records (c.entry_in.ensures ∙ ap showing l.invariant.cursor)
-          ∙ filled-more shown l.i a.records.now (omega arith);
-    }
+pub loop-record-preserved : goal.loop-record-preserved
+loop-record-preserved c = filling-goes c.loop-record.invariant c.in-Some.here (omega arith) (search rules)
 
-pub returns : goal.returns
-returns c =
-    let a = c.args in
-    let l = c.loop-i in
-    let all = lists-all a.format a.edition a.image.now a.records.now in
-    let over : l.i ≡ c.fit_of-n.result = omega arith in
-    let shown : ℕ → Entry = shown_by a.format a.edition a.image.now in (
-      c.answer_of.ensures ∙ ap (λ (t : Taken). answering t (length a.records.now)) c.take-t.ensures ∙ all.answers,
-      l.invariant.records
-          ∙ ap (λ (k : ℕ). filled shown k a.records.now) (over ∙ c.fit_of-n.ensures ∙ ap (λ (t : Taken). fitting t (length a.records.now)) c.take-t.ensures)
-          ∙ all.fills,
-    )
+pub returns-after-loop-record : goal.returns-after-loop-record
+returns-after-loop-record c = let a = c.args in
+    let n = c.in_ok-room.room.count in
+    let q : taken a.format a.edition a.image.now ≡ Ok c.in_ok-room.room = search rules in
+    let many = (list-given a.format a.edition a.image.now a.records.now q).many in
+    let z = list-fills a.format a.edition a.image.now a.records.now q c.if-records-room.false in
+    let full = filling-full c.loop-record.invariant (omega (arith, many, length-take n a.records.now)) (omega arith) in
+    (sym (ap (λ (x : Listed). x.answer) z), ap (λ (l : List Entry). l ++ drop n a.records.now) full ∙ sym (ap (λ (x : Listed). x.records) z))
+
+pub returns-in_default : goal.returns-in_default
+returns-in_default c = let a = c.args in
+    let n = c.in_ok-room.room.count in
+    let q : taken a.format a.edition a.image.now ≡ Ok c.in_ok-room.room = search rules in
+    let many = (list-given a.format a.edition a.image.now a.records.now q).many in
+    let over = filling-over c.loop-record.invariant (search rules) in
+    absurd (omega (arith, over, many, length-take n a.records.now))

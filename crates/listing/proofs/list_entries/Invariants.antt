@@ -1,16 +1,6 @@
--- Where i records are filled, the cursor has made i steps.
-use Rattle.std.proofs.Common.{◌≡◌, ◌-◌, ◌≤◌}
-use Rattle.accept.specs.Taken.{taken}
-use Rattle.listing.specs.Cursors.{beginning, stepped, filled}
-use Rattle.listing.proofs.Stepping.{shown_by}
+-- The first records are those of the entries before p.
+use Rattle.listing.proofs.Filling.{Filling}
 use Rattle.listing.proofs.list_entries.Given as goal
 
-abbrev pub invariant-loop-i : goal.invariant-loop-i
-invariant-loop-i l = record {
-  in_range : l.i ≤ l.n;
-  cursor : l.c ≡ stepped (beginning (taken l.format l.edition l.image) l.edition l.image) l.image l.i;
-  records : l.records ≡ filled (shown_by l.format l.edition l.image) l.i l.fn.records;
-}
-
-abbrev pub decreases-loop-i : goal.decreases-loop-i
-decreases-loop-i l = l.n - l.i
+abbrev pub invariant-loop-record : goal.invariant-loop-record
+invariant-loop-record l = Filling l.room.format l.edition l.image l.room.start l.room.end l.record-items l.record-index l.p l.shut

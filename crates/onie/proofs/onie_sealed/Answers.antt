@@ -1,9 +1,8 @@
 -- `onie::onie_sealed` meets its contract: it compares the stored check with that over the bytes before the end of the entries and FE 04.
 -- Assumes nothing.
-use mathlib.Core.Path.{sym}
+use Prim.Native.Nat.{◌/◌, ◌%◌}
+use mathlib.Core.Path.{◌≡◌}
 use native.Mathlib.Omega.{arith}
-use lib.Seq.{length-take-le}
-use borrow.Author.Rules.{rules}
 use Rattle.layout.specs.Onie.{onie, onie_check}
 use Rattle.layout.specs.Read.{sealed}
 use Rattle.parts.proofs.Seal.{unsealed}
@@ -13,9 +12,9 @@ pub returns-then-image-p : goal.returns-then-image-p
 unfolding onie onie_check
 returns-then-image-p c = unsealed onie _ _ (omega arith) (omega arith)
 
-pub slice_bounds-check32_closed-end : goal.slice_bounds-check32_closed-end
-slice_bounds-check32_closed-end c = sym (length-take-le _ _ (search rules))
-
 pub returns : goal.returns
 unfolding sealed onie onie_check
-returns c = rw (c.is_stored.ensures, c.four_bytes-check.ensures, c.check32_closed-c.ensures)
+returns c =
+    let n = c.check32_closed.result in
+    let high : n / 16777216 % 256 ≡ n / 16777216 = omega arith in
+    rw (c.is_stored.ensures, c.to_be_bytes-check.ensures, high, c.check32_closed.ensures)

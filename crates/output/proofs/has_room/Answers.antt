@@ -7,12 +7,12 @@ use Rattle.output.specs.Lengths.{has_room}
 use Rattle.output.proofs.Lengths.{capped-min, fits-alike}
 use Rattle.output.proofs.has_room.Goals as goal
 
-pub returns-then-room-gt65536 : goal.returns-then-room-gt65536
+pub returns-then-room-le65536 : goal.returns-then-room-le65536
 unfolding has_room
-returns-then-room-gt65536 c = rw (lt-leb _ _ c.if-room-gt65536.true)
+returns-then-room-le65536 c = let a = c.args in
+    rw (le-leb _ _ c.if-room-le65536.true)
+    (fits-alike c.add_capped.result (a.at + a.n) a.room c.if-room-le65536.true (omega (arith, capped-min (a.at + a.n))))
 
-pub returns : goal.returns
+pub returns-else-room-le65536 : goal.returns-else-room-le65536
 unfolding has_room
-returns c = let a = c.args in
-    rw (le-leb _ _ c.if-room-gt65536.false)
-    (fits-alike c.add_capped.result (a.at + a.n) a.room c.if-room-gt65536.false (omega (arith, capped-min (a.at + a.n))))
+returns-else-room-le65536 c = rw (lt-leb _ _ c.if-room-le65536.false)

@@ -3,10 +3,7 @@
 use mathlib.Core.Path.{refl}
 use native.Mathlib.Omega.{arith}
 use Rattle.layout.specs.Vpd.{vpd}
-use Rattle.layout.specs.Fboss.{fboss}
-use Rattle.layout.specs.Tiny.{tiny}
-use Rattle.layout.specs.Onie.{onie}
-use Rattle.output.proofs.Lengths.{length-keyed}
+use Rattle.output.proofs.Lengths.{length-keyed, not-keyed}
 use Rattle.output.proofs.Overlay.{copied-then}
 use Rattle.output.proofs.write_opening.Goals as goal
 
@@ -14,10 +11,6 @@ pub put_shortest-requires : goal.put_shortest-requires
 put_shortest-requires c = let a = c.args in
     let p = c.requires in
     omega (arith, p.out_len_bound.0, rw (c.in-Vpd.is, length-keyed a.code a.key.now) at p.out_len_bound.1)
-
-pub returns-in-Fboss : goal.returns-in-Fboss
-unfolding fboss
-returns-in-Fboss c = rw c.in-Fboss.is c.copy_at.ensures
 
 pub returns-in-Vpd : goal.returns-in-Vpd
 unfolding vpd
@@ -30,10 +23,5 @@ returns-in-Vpd c = let a = c.args in
     (copied-then _ _ _ _ c.copy_at.ensures c.put_shortest.ensures (omega arith) refl)
     c.copy_at-in-Vpd.ensures room (omega arith))
 
-pub returns-in-Tiny : goal.returns-in-Tiny
-unfolding tiny
-returns-in-Tiny c = rw c.in-Tiny.is c.copy_at.ensures
-
-pub returns-in-Onie : goal.returns-in-Onie
-unfolding onie
-returns-in-Onie c = rw c.in-Onie.is c.copy_at.ensures
+pub returns-in_default : goal.returns-in_default
+returns-in_default c = rw (not-keyed c.args.format c.args.code c.args.key.now c.in_default.not-Vpd) c.copy_at.ensures

@@ -1,18 +1,15 @@
--- `parts::all_between` meets its contract: a loop that tests each byte.
+-- `parts::all_between` meets its contract: the chain gives whether each byte passes the test.
 -- Assumes nothing.
+use mathlib.Core.Path.{◌∙◌}
 use borrow.Author.Rules.{rules}
-use Rattle.parts.proofs.Loops.{passes, fails, passed}
+use Rattle.std.proofs.lemmas.Iterator.{YieldsList-from_slice}
+use Rattle.std.proofs.lemmas.Iterator.Search.{all_from_yields_List}
+use Rattle.layout.specs.Bytes.{between}
+use Rattle.parts.proofs.Loops.{all_listed}
 use Rattle.parts.proofs.Tests.{tests}
 use Rattle.parts.proofs.all_between.Goals as goal
 
-pub returns-then-v-at : goal.returns-then-v-at
-returns-then-v-at c = fails _ _ _ c.loop-at.invariant (search rules) (search tests)
-
-pub returns-then-high-v : goal.returns-then-high-v
-returns-then-high-v c = fails _ _ _ c.loop-at.invariant (search rules) (search tests)
-
-pub loop-at-preserved : goal.loop-at-preserved
-loop-at-preserved c = passes _ _ _ c.loop-at.invariant (search rules) (search tests)
-
 pub returns : goal.returns
-returns c = passed _ _ _ c.loop-at.invariant (search rules)
+returns c =
+    let test = between c.args.low c.args.high in
+    all_from_yields_List test _ _ _ c.all.ensures.ran (YieldsList-from_slice c.args.v.now cc) (λ x b q k. search (rules, tests)) ∙ all_listed test _

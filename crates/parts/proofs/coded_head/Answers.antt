@@ -26,12 +26,12 @@ returns-then-s-size c = search tests
 
 pub returns-then-s-n : goal.returns-then-s-n
 unfolding coded_head
-returns-then-s-n c = search tests
+returns-then-s-n c = search (tests, ← c.from-n.ensures)
 
 pub returns-then-first-end : goal.returns-then-first-end
 unfolding coded_head
-returns-then-first-end c = search tests
+returns-then-first-end c = search (tests, ← c.from-n.ensures)
 
 pub returns : goal.returns
 unfolding coded_head
-returns c = rw c.code_of.ensures (search tests)
+returns c = rw c.from.ensures (search tests)

@@ -1,19 +1,17 @@
--- `parts::is_stored` meets its contract: a part that the image cuts short is not the check, unless the check has no bytes.
+-- `parts::is_stored` meets its contract: past the image no check is stored but one that has no bytes.
 -- Assumes nothing.
-use native.Mathlib.Nat.{add-sub_cancel_left}
+use Prim.Native.Nat.{◌<◌}
+use mathlib.Core.Path.{◌∙◌}
 use native.Mathlib.Omega.{arith}
-use Rattle.layout.specs.Bytes.{part}
-use Rattle.parts.proofs.Seal.{none-stored, cut_short}
+use lib.ListN.{length}
+use Rattle.parts.proofs.Seal.{begins, none-stored}
 use Rattle.parts.proofs.is_stored.Goals as goal
 
-pub returns-then-image-at : goal.returns-then-image-at
-returns-then-image-at c = let a = c.args in
-    none-stored a.image.now a.check.now a.at c.if-image-at.true
+pub returns-in-Some : goal.returns-in-Some
+returns-in-Some c = let a = c.args in
+    c.starts_with.ensures.value ∙ rw c.in-Some.ensures.lookup.0.2 (begins a.image.now a.check.now a.at)
 
-pub returns-then-image-at-2 : goal.returns-then-image-at-2
-returns-then-image-at-2 c = let a = c.args in
-    cut_short a.image.now a.check.now a.at (omega arith) (omega arith)
-
-pub returns : goal.returns
-unfolding part
-returns c = rw (c.same_bytes.ensures, add-sub_cancel_left)
+pub returns-in-None : goal.returns-in-None
+returns-in-None c = let a = c.args in
+    let past : length a.image.now < a.at = omega (arith, c.in-None.ensures.lookup.0) in
+    c.is_empty.ensures ∙ none-stored a.image.now a.check.now a.at (omega arith)

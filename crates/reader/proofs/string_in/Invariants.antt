@@ -1,12 +1,8 @@
-use Prim.Native.Nat.{◌-◌, ◌≤◌}
+use Prim.Native.Nat.{◌≤◌}
 use mathlib.Core.Path.{◌≡◌}
-use lib.ListN.{length}
 use Rattle.layout.specs.Calls.{string_in}
 use Rattle.reader.proofs.Strings.{string_from}
 use Rattle.reader.proofs.string_in.Given as goal
 
 abbrev pub invariant-loop-i : goal.invariant-loop-i
-invariant-loop-i l = (l.first ≤ l.i) × (l.i ≤ length l.pool) × (string_in l.pool l.place.0 0 l.initial.skip ≡ string_from l.pool l.place.0 l.first l.i l.skip)
-
-abbrev pub decreases-loop-i : goal.decreases-loop-i
-decreases-loop-i l = length l.pool - l.i
+invariant-loop-i l = (l.first ≤ l.i) × (string_in l.pool l.place.0 0 l.initial.skip ≡ string_from l.pool l.place.0 l.first l.i l.skip)

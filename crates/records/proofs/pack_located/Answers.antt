@@ -3,9 +3,9 @@
 use Rattle.records.specs.Packed.{packed}
 use Rattle.records.proofs.pack_located.Goals as goal
 
-pub returns-in-Nowhere : goal.returns-in-Nowhere
-returns-in-Nowhere c = rw c.in-Nowhere.is c.pack_refusal.ensures
+pub returns-in-Err : goal.returns-in-Err
+returns-in-Err c = rw c.in-Err.is c.pack_refusal.ensures
 
-pub returns-in-At : goal.returns-in-At
+pub returns-in-Ok : goal.returns-in-Ok
 unfolding packed
-returns-in-At c = rw c.in-At.is
+returns-in-Ok c = rw c.in-Ok.is

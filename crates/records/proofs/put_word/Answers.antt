@@ -1,19 +1,9 @@
--- `records::put_word` meets its contract: four stores side by side.
+-- `records::put_word` meets its contract: a copy of the four low bytes.
 -- Assumes nothing.
 use native.Mathlib.Omega.{arith}
-use lib.ListN.{length-set}
 use borrow.Author.Rules.{rules}
-use Rattle.records.proofs.Words.{stored-four}
+use Rattle.output.proofs.Overlay.{put-copied}
 use Rattle.records.proofs.put_word.Goals as goal
 
-pub bounds-out-at-2 : goal.bounds-out-at-2
-bounds-out-at-2 c = simp length-set (omega arith)
-
-pub bounds-out-at-3 : goal.bounds-out-at-3
-bounds-out-at-3 c = simp length-set (omega arith)
-
-pub bounds-out-at-4 : goal.bounds-out-at-4
-bounds-out-at-4 c = simp length-set (omega arith)
-
 pub returns : goal.returns
-returns c = stored-four _ _ _ _ _ _ (search rules)
+returns c = put-copied _ _ _ (rw c.to_le_bytes-bytes.ensures at c.copy_from_slice.ensures.after) (omega arith) (search rules)

@@ -3,6 +3,7 @@
 use mathlib.Core.Path.{refl, sym, ◌∙◌}
 use Prim.Native.Nat.{ℕ, ◌<◌}
 use mathlib.Core.List.{List, [], ◌∷◌}
+use Rattle.layout.proofs.Passed.{passed}
 use Rattle.rooms.specs.File.{Board, board}
 use lib.ListN.{length, get_or}
 use Rattle.rooms.specs.Calls.{absent}
@@ -12,13 +13,13 @@ use Rattle.room_calls.proofs.Calling.{change-closed, change-denied, change-asked
 use Rattle.room_calls.proofs.add_board.Goals as goal
 
 pub returns-then-t-gt0 : goal.returns-then-t-gt0
-returns-then-t-gt0 c = let a = c.args in let bytes : (i : ℕ) → get_or a.file.now i 0 < 256 = λ i. (c.type_inv.file i).fits in let new : List Board = board a.board a.format a.body.now ∷ [] in let w = found a.form a.edition a.file.now (length a.out.now) _ _ a.board (sym c.find_board-f.ensures ∙ c.in-At.is) in rw c.at_zero.ensures (outcome (change-denied w absent new a.out.now refl (given w.stored bytes c.if-t-gt0.true).absent_not))
+returns-then-t-gt0 c = let a = c.args in let bytes : (i : ℕ) → get_or a.file.now i 0 < 256 = λ i. (c.type_inv.file i).fits in let new : List Board = board a.board a.format a.body.now ∷ [] in let w = found a.form a.edition a.file.now (length a.out.now) _ a.board (sym c.find_board.ensures ∙ c.in_ok-t.was) in rw c.from.ensures (outcome (change-denied w absent new a.out.now refl (given w.stored bytes c.if-t-gt0.true).absent_not))
 
 pub put_board-requires : goal.put_board-requires
-put_board-requires c = let a = c.args in let bytes : (i : ℕ) → get_or a.file.now i 0 < 256 = λ i. (c.type_inv.file i).fits in let new : List Board = board a.board a.format a.body.now ∷ [] in let w = found a.form a.edition a.file.now (length a.out.now) _ _ a.board (sym c.find_board-f.ensures ∙ c.in-At.is) in (w.stored, w.lent_short)
+put_board-requires c = let a = c.args in let bytes : (i : ℕ) → get_or a.file.now i 0 < 256 = λ i. (c.type_inv.file i).fits in let new : List Board = board a.board a.format a.body.now ∷ [] in let w = found a.form a.edition a.file.now (length a.out.now) _ a.board (sym c.find_board.ensures ∙ c.in_ok-t.was) in (w.stored, w.lent_short)
 
-pub returns-in-Not : goal.returns-in-Not
-returns-in-Not c = let a = c.args in outcome (change-closed a.form a.edition a.file.now a.board absent (board a.board a.format a.body.now ∷ []) a.out.now _ (sym c.find_board-f.ensures ∙ c.in-Not.is))
+pub returns-in_err-t : goal.returns-in_err-t
+returns-in_err-t c = let a = c.args in rw (passed c.from_residual.result c.from_residual.ensures.1) (outcome (change-closed a.form a.edition a.file.now a.board absent (board a.board a.format a.body.now ∷ []) a.out.now _ (sym c.find_board.ensures ∙ c.in_err-t.was)))
 
-pub returns-else-t-gt0 : goal.returns-else-t-gt0
-returns-else-t-gt0 c = let a = c.args in let bytes : (i : ℕ) → get_or a.file.now i 0 < 256 = λ i. (c.type_inv.file i).fits in let new : List Board = board a.board a.format a.body.now ∷ [] in let w = found a.form a.edition a.file.now (length a.out.now) _ _ a.board (sym c.find_board-f.ensures ∙ c.in-At.is) in outcome-as (c.put_board.ensures.value, c.put_board.ensures.out_after) (change-asked w absent new a.out.now refl (missing w.stored bytes c.if-t-gt0.false).1)
+pub returns : goal.returns
+returns c = let a = c.args in let bytes : (i : ℕ) → get_or a.file.now i 0 < 256 = λ i. (c.type_inv.file i).fits in let new : List Board = board a.board a.format a.body.now ∷ [] in let w = found a.form a.edition a.file.now (length a.out.now) _ a.board (sym c.find_board.ensures ∙ c.in_ok-t.was) in outcome-as (c.put_board.ensures.value, c.put_board.ensures.out_after) (change-asked w absent new a.out.now refl (missing w.stored bytes c.if-t-gt0.false).1)

@@ -1,8 +1,6 @@
+use Prim.Native.Nat.{◌+◌, ◌*◌}
 use Rattle.room_calls.proofs.Judging.{Judging}
 use Rattle.room_calls.proofs.judge_bodies.Given as goal
 
-abbrev pub invariant-loop-left : goal.invariant-loop-left
-invariant-loop-left l = Judging l.edition l.file l.start l.n l.at l.p l.left
-
-abbrev pub decreases-loop-left : goal.decreases-loop-left
-decreases-loop-left l = l.left
+abbrev pub invariant-loop-bytes : goal.invariant-loop-bytes
+invariant-loop-bytes l = Judging l.edition l.file (8 + 8 * l.n) l.bytes-items l.bytes-index l.p

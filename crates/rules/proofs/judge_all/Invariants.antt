@@ -1,4 +1,3 @@
-use Prim.Native.Nat.{◌-◌}
 use mathlib.Core.Path.{◌≡◌}
 use lib.ListN.{length}
 use Rattle.layout.specs.Write.{fields_in}
@@ -7,6 +6,3 @@ use Rattle.rules.proofs.judge_all.Given as goal
 
 abbrev pub invariant-loop-i : goal.invariant-loop-i
 invariant-loop-i l = (length l.filter ≡ length l.initial.filter) × Judging l.format l.edition (fields_in l.fields) l.values l.i l.shut l.seen l.filter l.total
-
-abbrev pub decreases-loop-i : goal.decreases-loop-i
-decreases-loop-i l = l.n - l.i

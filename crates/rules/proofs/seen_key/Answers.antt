@@ -1,48 +1,32 @@
 -- `rules::seen_key` meets its contract: the key is looked for among the fields from i on.
 -- Assumes nothing.
 use mathlib.Core.Path.{◌≡◌, sym}
-use mathlib.Core.List.{[]}
 use mathlib.Core.Bool.{true, false}
-use native.Mathlib.Omega.{arith}
-use lib.ListN.{get_or}
-use Rattle.layout.specs.Write.{field_at, fields_in}
-use Rattle.rules.proofs.Seen.{key_has, look-first, look_hit, look-on, look-over}
+use Rattle.layout.specs.Write.{fields_in}
+use Rattle.rules.proofs.Seen.{key_has, has-key, has-not, look-first, look_hit, look-on, look-over}
+use Rattle.rules.proofs.seen_key.Goals.{else-x-eq1-via-then-x-eq1+else-same_bytes, else-x-eq1-via-else-x-eq1}
 use Rattle.rules.proofs.seen_key.Goals as goal
 
 pub loop-i-init : goal.loop-i-init
 loop-i-init c = let a = c.args in
     look-first a.values.now a.key.now (fields_in a.fields.now) a.n
 
-pub field_at-x-requires : goal.field_at-x-requires
-field_at-x-requires c = tt
-
-pub field_key-other-requires : goal.field_key-other-requires
-field_key-other-requires c = tt
-
-pub same_bytes-requires : goal.same_bytes-requires
-same_bytes-requires c = tt
-
-pub returns-then-x-same_bytes : goal.returns-then-x-same_bytes
-returns-then-x-same_bytes c = let a = c.args in
+pub returns-then-same_bytes : goal.returns-then-same_bytes
+returns-then-same_bytes c = let a = c.args in
     let l = c.loop-i in
-    let xs = fields_in a.fields.now in
-    let t : key_has a.values.now a.key.now (get_or xs l.i (field_at [])) ≡ true = rw (c.same_bytes.ensures, c.field_key-other.ensures, c.field_at-x.ensures) at c.if-x-same_bytes.true in
-    sym (look_hit a.values.now a.key.now xs a.n l.i c.requires l.invariant c.loop-i-test.true t)
-
-pub overflow_add-i : goal.overflow_add-i
-overflow_add-i c = omega arith
-
-pub loop-i-smaller : goal.loop-i-smaller
-loop-i-smaller c = omega arith
+    let t : key_has a.values.now a.key.now c.field_at-x.result ≡ true = has-key a.values.now a.key.now c.field_at-x.result c.if-x-eq1.true c.field_key-other.ensures c.same_bytes.ensures c.if-same_bytes.true in
+    sym (look_hit a.values.now a.key.now (fields_in a.fields.now) a.n l.i c.requires l.invariant c.loop-i-test.true (rw c.field_at-x.ensures at t))
 
 pub loop-i-preserved : goal.loop-i-preserved
 loop-i-preserved c = let a = c.args in
     let l = c.loop-i in
-    let xs = fields_in a.fields.now in
-    let t : key_has a.values.now a.key.now (get_or xs l.i (field_at [])) ≡ false = rw (c.same_bytes.ensures, c.field_key-other.ensures, c.field_at-x.ensures) at c.if-x-same_bytes.false in
-    look-on a.values.now a.key.now xs a.n l.i c.requires l.invariant c.loop-i-test.true t
+    let t : key_has a.values.now a.key.now c.field_at-x.result ≡ false
+    = elim c.else-x-eq1.branch [
+      | else-x-eq1-via-then-x-eq1+else-same_bytes w ↦ has-key a.values.now a.key.now c.field_at-x.result w.if-x-eq1.true c.field_key-other.ensures w.same_bytes.ensures w.if-same_bytes.false
+      | else-x-eq1-via-else-x-eq1 w ↦ has-not a.values.now a.key.now c.field_at-x.result w.if-x-eq1.false
+    ] in
+    look-on a.values.now a.key.now (fields_in a.fields.now) a.n l.i c.requires l.invariant c.loop-i-test.true (rw c.field_at-x.ensures at t)
 
 pub returns : goal.returns
 returns c = let a = c.args in
-    let l = c.loop-i in
-    sym (look-over a.values.now a.key.now (fields_in a.fields.now) a.n l.i c.requires l.invariant c.loop-i-test.false)
+    sym (look-over a.values.now a.key.now (fields_in a.fields.now) a.n c.loop-i.i c.requires c.loop-i.invariant c.loop-i-test.false)

@@ -12,4 +12,4 @@ use Rattle.tiny.proofs.tests_passed.Goals as goal
 pub returns : goal.returns
 unfolding rows ones ones_in
 returns c = let b = c.args.b in
-    sym (made (λ b. ones (b % 16) % 256) 256 b (search rules)) ∙ made passed 256 b (search rules)
+    sym (made (λ b. ones (b % 16)) 256 b (search rules)) ∙ made passed 256 b (search rules)

@@ -7,6 +7,7 @@ use native.Mathlib.Nat.{add-zero}
 use lib.ListN.{drop_of_length-le, length-take}
 use lib.Seq.{drop-cons}
 use lib.Dec.{eqb}
+use borrow.Author.Tests.{le-ltb}
 use Rattle.layout.specs.Bytes.{if, part, same_bytes}
 use Rattle.layout.specs.Tiny.{tiny}
 use Rattle.layout.specs.Read.{sealed}
@@ -17,14 +18,14 @@ chosen : (b : Bool) → b ≡ if b (λ _. true) (λ _. false)
 chosen true = refl
 chosen false = refl
 
-pub returns-then-image-p : goal.returns-then-image-p
-unfolding sealed tiny part same_bytes
-returns-then-image-p c = rw (add-zero c.args.p, drop_of_length-le _ c.if-image-p.true)
-
 pub slice_bounds-check8-end : goal.slice_bounds-check8-end
 slice_bounds-check8-end c = simp length-take (omega arith)
 
-pub returns : goal.returns
+pub returns-then-p-image : goal.returns-then-p-image
 unfolding sealed tiny part same_bytes
-returns c = let a = c.args in
+returns-then-p-image c = let a = c.args in
     rw (add-zero, drop-cons a.image.now a.p 0 (omega arith)) (ap (eqb _) c.check8.ensures ∙ chosen _)
+
+pub returns-else-p-image : goal.returns-else-p-image
+unfolding sealed tiny part same_bytes
+returns-else-p-image c = rw (add-zero c.args.p, drop_of_length-le _ c.if-p-image.false, le-ltb _ _ c.if-p-image.false)

@@ -1,67 +1,25 @@
--- `vendor::count_pieces` meets its contract: a loop over the lengths, which ends where one is too large. The measure is what is left of their bytes.
+-- `vendor::count_pieces` meets its contract: a loop over the lengths, which ends where one is too large.
 -- Assumes nothing.
-use Prim.Native.Nat.{◌+◌, ◌≤◌}
+use Prim.Native.Nat.{◌<◌}
 use native.Mathlib.Omega.{arith}
-use lib.ListN.{length}
-use Rattle.vendor.proofs.Cutting.{word-there, counting-starts, counting-inside, counting-few, counting-on, counting-large, counting-beyond, counting-short, counting-right}
+use Rattle.vendor.proofs.Cutting.{pieces-chunked, counting-starts, counting-on, counting-large, counting-beyond, counting-short, counting-right}
 use Rattle.vendor.proofs.count_pieces.Goals as goal
 
-pub loop-at-init : goal.loop-at-init
-loop-at-init c = counting-starts c.args.pieces.now c.args.need
-
-pub overflow_sub-pieces : goal.overflow_sub-pieces
-overflow_sub-pieces c = counting-inside c.loop-at.invariant
+pub loop-size-init : goal.loop-size-init
+loop-size-init c = counting-starts c.as_chunks.result.0.now c.args.need
 
 pub returns-then-size-gt250 : goal.returns-then-size-gt250
-returns-then-size-gt250 c = let a = c.args in
-    let s = a.pieces.now in
-    let l = c.loop-at in
-    let le : l.at + 4 ≤ length s = omega (arith, counting-inside l.invariant, c.loop-at-test.true) in
-    let size = word-there s l.at _ le c.word_in-size.ensures in
-    counting-large l.invariant le (omega (arith, size, c.if-size-gt250.true))
+returns-then-size-gt250 c = rw (pieces-chunked c.args.pieces.now c.as_chunks.ensures.front) (counting-large c.loop-size.invariant c.loop-size-test.true c.from_le_bytes-size.ensures c.if-size-gt250.true)
 
-pub returns-then-left-size : goal.returns-then-left-size
-returns-then-left-size c = let a = c.args in
-    let s = a.pieces.now in
-    let l = c.loop-at in
-    let le : l.at + 4 ≤ length s = omega (arith, counting-inside l.invariant, c.loop-at-test.true) in
-    let size = word-there s l.at _ le c.word_in-size.ensures in
-    counting-beyond l.invariant le (omega (arith, size, c.if-left-size.true))
+pub returns-in_err-left : goal.returns-in_err-left
+returns-in_err-left c = let beyond : c.loop-size.left < c.from_le_bytes-size.result = omega (arith, c.in_err-left.ensures) in
+    rw (c.from_residual.ensures, pieces-chunked c.args.pieces.now c.as_chunks.ensures.front) (counting-beyond c.loop-size.invariant c.loop-size-test.true c.from_le_bytes-size.ensures beyond)
 
-pub overflow_add-at : goal.overflow_add-at
-overflow_add-at c = let a = c.args in
-    let s = a.pieces.now in
-    let l = c.loop-at in
-    let le : l.at + 4 ≤ length s = omega (arith, counting-inside l.invariant, c.loop-at-test.true) in
-    let size = word-there s l.at _ le c.word_in-size.ensures in
-    omega (arith, le)
-
-pub overflow_add-n : goal.overflow_add-n
-overflow_add-n c = let a = c.args in
-    let s = a.pieces.now in
-    let l = c.loop-at in
-    let le : l.at + 4 ≤ length s = omega (arith, counting-inside l.invariant, c.loop-at-test.true) in
-    let size = word-there s l.at _ le c.word_in-size.ensures in
-    omega (arith, counting-few l.invariant, le)
-
-pub loop-at-smaller : goal.loop-at-smaller
-loop-at-smaller c = let a = c.args in
-    let s = a.pieces.now in
-    let l = c.loop-at in
-    let le : l.at + 4 ≤ length s = omega (arith, counting-inside l.invariant, c.loop-at-test.true) in
-    let size = word-there s l.at _ le c.word_in-size.ensures in
-    omega (arith, le)
-
-pub loop-at-preserved : goal.loop-at-preserved
-loop-at-preserved c = let a = c.args in
-    let s = a.pieces.now in
-    let l = c.loop-at in
-    let le : l.at + 4 ≤ length s = omega (arith, counting-inside l.invariant, c.loop-at-test.true) in
-    let size = word-there s l.at _ le c.word_in-size.ensures in
-    rw size (counting-on l.invariant le (omega (arith, size, c.if-size-gt250.false)) (omega (arith, size, c.if-left-size.false)))
+pub loop-size-preserved : goal.loop-size-preserved
+loop-size-preserved c = rw c.in_ok-left.ensures.1 (counting-on c.loop-size.invariant c.loop-size-test.true c.from_le_bytes-size.ensures c.if-size-gt250.false c.in_ok-left.ensures.0)
 
 pub returns-then-left-ne0 : goal.returns-then-left-ne0
-returns-then-left-ne0 c = counting-short c.loop-at.invariant (omega (arith, c.loop-at-test.false)) c.if-left-ne0.true
+returns-then-left-ne0 c = rw (pieces-chunked c.args.pieces.now c.as_chunks.ensures.front) (counting-short c.loop-size.invariant c.loop-size-test.false c.if-left-ne0.true)
 
 pub returns : goal.returns
-returns c = counting-right c.loop-at.invariant (omega (arith, c.loop-at-test.false)) c.if-left-ne0.false
+returns c = rw (pieces-chunked c.args.pieces.now c.as_chunks.ensures.front) (counting-right c.loop-size.invariant c.loop-size-test.false c.if-left-ne0.false)

@@ -1,23 +1,25 @@
 -- `vendor::is_checked` meets its contract: it compares the last four bytes with the check over those before them.
 -- Assumes nothing.
-use mathlib.Core.Path.{sym}
-use native.Mathlib.Omega.{arith}
 use Prim.Native.Nat.{◌-◌}
-use lib.ListN.{length, take}
+use mathlib.Core.Path.{◌≡◌, sym, ◌∙◌}
+use native.Mathlib.Omega.{arith}
+use lib.ListN.{length, take, drop, length-drop}
+use lib.Seq.{take_all}
 use Rattle.crc.specs.Crc.{check32_of}
+use Rattle.layout.specs.Bytes.{part}
 use Rattle.layout.specs.Onie.{four_bytes}
-use lib.Seq.{length-take-le}
 use Rattle.blocks.specs.Payload.{checked}
 use Rattle.parts.proofs.Seal.{cut_short}
+use Rattle.vendor.proofs.Matching.{same_listed, four-high}
 use Rattle.vendor.proofs.is_checked.Goals as goal
 
-pub returns-then-payload-lt4 : goal.returns-then-payload-lt4
-unfolding checked
-returns-then-payload-lt4 c = let s = c.args.payload.now in cut_short s (four_bytes (check32_of (take (length s - 4) s))) (length s - 4) (omega arith) (omega (arith, c.if-payload-lt4.true))
+pub returns-in-Some : goal.returns-in-Some
+unfolding checked part
+returns-in-Some c = let s = c.args.payload.now in
+    let w = c.in-Some.ensures.cases in
+    let last : c.in-Some.check.now ≡ take 4 (drop (length s - 4) s) = w.1 ∙ sym (take_all 4 (drop (length s - 4) s) (omega (arith, length-drop (length s - 4) s))) in
+    c.eq.ensures ∙ same_listed c.in-Some.check.now c.to_be_bytes.result ∙ rw (last, c.to_be_bytes.ensures, four-high c.check32.type_inv, c.check32.ensures, w.0)
 
-pub slice_bounds-check32-end : goal.slice_bounds-check32-end
-slice_bounds-check32-end c = sym (length-take-le _ _ (omega arith))
-
-pub returns : goal.returns
+pub returns-in-None : goal.returns-in-None
 unfolding checked
-returns c = rw (c.is_stored.ensures, c.four_bytes-check.ensures, c.check32-c.ensures)
+returns-in-None c = let s = c.args.payload.now in cut_short s (four_bytes (check32_of (take (length s - 4) s))) (length s - 4) (omega arith) (omega (arith, c.in-None.ensures.cases))

@@ -18,6 +18,6 @@ returns c = let d = c.args.own.now in
     let head : List ℕ = 0x00 ∷ 0x09 ∷ 0x00 ∷ [] in
     let two = copied-then d 0 first s c.copy_at.ensures c.copy_at-2.ensures (omega (arith, c.requires.1)) (omega arith) in
     let three = copied-then d 0 (first ++ s) head two c.copy_at-3.ensures (omega (arith, c.requires.1, length-append s head)) (omega arith) in
-    let eighth = c.copy_at-4.ensures ∙ ap (copied c.copy_at-3.new.out (1 + length s + 3)) c.offset_bytes-eight.ensures in
+    let eighth = c.copy_at-4.ensures ∙ ap (copied c.copy_at-3.new.out (1 + length s + 3)) c.offset_bytes.ensures in
     let four = copied-then d 0 ((first ++ s) ++ head) eight three eighth (omega (arith, c.requires.1, length-append s head, length-append (s ++ head) eight)) (omega (arith, length-append s head)) in
     four ∙ ap (copied d 0) (ap (λ (y : List ℕ). length s ∷ y) (append_assoc s head eight))

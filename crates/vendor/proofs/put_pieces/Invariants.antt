@@ -1,10 +1,7 @@
-use Prim.Native.Nat.{◌-◌}
-use lib.ListN.{length}
-use Rattle.vendor.proofs.Cutting.{Putting}
+use Rattle.output.specs.Placing.{copied}
+use Rattle.blocks.specs.Payload.{cut_into}
+use Rattle.vendor.proofs.Cutting.{sizes, Putting}
 use Rattle.vendor.proofs.put_pieces.Given as goal
 
-abbrev pub invariant-loop-at : goal.invariant-loop-at
-invariant-loop-at l = Putting l.initial.out l.pieces l.payload l.out l.at l.to l.from
-
-abbrev pub decreases-loop-at : goal.decreases-loop-at
-decreases-loop-at l = length l.pieces - l.at
+abbrev pub invariant-loop-size : goal.invariant-loop-size
+invariant-loop-size l = Putting l.sizes (copied l.initial.out 0 (cut_into (sizes l.sizes) l.payload)) l.out l.rest l.size-index l.to

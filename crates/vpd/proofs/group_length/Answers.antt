@@ -6,13 +6,18 @@ use native.Mathlib.Nat.{pow-suc, pow-le-pow_right}
 use native.Mathlib.Numerals.{add-one}
 use native.Mathlib.Omega.{arith}
 use borrow.Author.Tests.{lt-ltb, le-ltb}
-use Rattle.layout.specs.declared.Length.TheVariants.{Reads}
+use Rattle.std.specs.Prelude.{Ok}
+use Rattle.layout.specs.Answers.{Length}
 use Rattle.layout.specs.Vpd.{groups}
 use Rattle.vpd.proofs.group_length.Goals as goal
 
 -- what fewer than four bytes of seven bits say at most
 small : (n k : ℕ) → n < 128 ^ k → k < 4 → n < 128 ^ 3
 small n k h lt = let p : 128 ^ k ≤ 128 ^ 3 = pow-le-pow_right {n = 128} (omega arith) {i = k} {j = 3} (omega arith) in omega arith
+
+-- a length that was read, and the place after it
+abbrev read : ℕ → ℕ → Length
+read n j = Ok (n, j)
 
 pub loop-init : goal.loop-init
 loop-init c = (omega arith, refl)
@@ -42,7 +47,7 @@ pub returns-then-b-lt128 : goal.returns-then-b-lt128
 unfolding groups
 returns-then-b-lt128 c = let l = c.loop in
     let more : 4 - l.counter ≡ suc (4 - (l.counter + 1)) = omega arith in
-    sym (l.invariant.1 ∙ rw (more, lt-ltb _ _ c.if-s-at.false, lt-ltb _ _ c.if-b-lt128.true) (ap₂ Reads (omega arith) (omega arith)))
+    sym (l.invariant.1 ∙ rw (more, lt-ltb _ _ c.if-s-at.false, lt-ltb _ _ c.if-b-lt128.true) (ap₂ (λ (n j : ℕ). read n j) (omega arith) (omega arith)))
 
 pub overflow_step : goal.overflow_step
 overflow_step c = omega arith

@@ -1,38 +1,29 @@
--- `vpd::key_rule` meets its contract: the test of the whole key is the test of the bytes that are left.
+-- `vpd::key_rule` meets its contract: the chain gives whether each byte is of the alphabet.
 -- Assumes nothing.
-use Prim.Native.Nat.{ℕ, ◌+◌, ◌<◌}
-use mathlib.Core.Path.{◌≡◌, sym, ◌∙◌}
-use mathlib.Core.List.{List}
+use Prim.Native.Nat.{ℕ, ◌<◌}
+use mathlib.Core.Path.{◌≡◌, refl, ap, ◌∙◌}
+use mathlib.Core.List.{List, [], ◌∷◌}
 use mathlib.Core.Bool.{Bool, ◌&&◌}
-use native.Mathlib.Numerals.{add-one}
 use native.Mathlib.Omega.{arith}
 use borrow.Author.Rules.{rules}
-use borrow.Author.Tests.{lt-ltb, le-ltb}
-use lib.ListN.{length, get_or, drop, drop_of_length-le}
-use lib.Seq.{drop-cons}
+use borrow.Author.Tests.{lt-ltb}
+use lib.ListN.{length}
+use Rattle.std.specs.List.{list_all}
+use Rattle.std.proofs.lemmas.Bool.Decides.{nat_tests}
+use Rattle.std.proofs.lemmas.Iterator.{YieldsList-from_slice}
+use Rattle.std.proofs.lemmas.Iterator.Search.{all_from_yields_List}
 use Rattle.layout.specs.Bytes.{all}
 use Rattle.layout.specs.Vpd.{key_byte}
 use Rattle.vpd.proofs.key_rule.Goals as goal
 
--- the bytes from a place on pass a test where the first does and the others do
-all-next : (t : ℕ → Bool) (s : List ℕ) (i : ℕ) {b : Bool} → i < length s → t (get_or s i 0) ≡ b → all t (drop i s) ≡ (b && all t (drop (i + 1) s))
+-- a chain that tests each byte answers as the definition does
+all_listed : (t : ℕ → Bool) (v : List ℕ) → list_all t v ≡ all t v
 unfolding all
-all-next t s i h e = rw (add-one, drop-cons s i 0, e)
+all_listed t [] = refl
+all_listed t (b ∷ bs) = ap (λ (r : Bool). t b && r) (all_listed t bs)
 
-pub returns-then-key-le0 : goal.returns-then-key-le0
-returns-then-key-le0 c = rw (le-ltb 0 (length c.args.key.now) (omega arith))
-
-pub loop-i-init : goal.loop-i-init
-loop-i-init c = rw (lt-ltb 0 (length c.args.key.now) (omega arith))
-
-pub loop-i-preserved : goal.loop-i-preserved
-loop-i-preserved c = let at = c.loop-i in
-    at.invariant ∙ all-next key_byte _ at.i (search rules) c.if-b.true
-
-pub returns-else-b : goal.returns-else-b
-returns-else-b c = let at = c.loop-i in
-    sym (at.invariant ∙ all-next key_byte _ at.i (search rules) c.if-b.false)
-
-pub returns : goal.returns
-unfolding all
-returns c = rw (c.loop-i.invariant, drop_of_length-le _ c.loop-i-test.false)
+pub returns-then-not-is_empty : goal.returns-then-not-is_empty
+returns-then-not-is_empty c =
+    let some : 0 < length c.args.key.now = grind (arith, nat_tests, c.is_empty.ensures, c.if-not-is_empty.true) in
+    rw (lt-ltb 0 (length c.args.key.now) some)
+    (all_from_yields_List key_byte _ _ _ c.all.ensures.ran (YieldsList-from_slice c.args.key.now cc) (λ x b q k. search (rules, nat_tests)) ∙ all_listed key_byte _)

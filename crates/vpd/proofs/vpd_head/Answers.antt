@@ -7,13 +7,13 @@ use mathlib.Core.Logic.{◌⊎◌, inl, inr}
 use native.Mathlib.Omega.{arith}
 use borrow.Author.Tests.{lt-ltb, le-ltb, ne_eqb}
 use lib.ListN.{length, get_or}
-use Rattle.layout.specs.declared.Headed.TheVariants.{Ends}
+use Rattle.std.specs.Prelude.{Ok, None}
 use Rattle.layout.specs.Vpd.{groups, keyed_head, vpd_head}
 use Rattle.vpd.proofs.vpd_head.Goals as goal
 
 -- bytes whose first one ends the image, or opens an entry
 module _ (s : List ℕ) (some : 0 < length s) where
-  ends : (get_or s 0 0 ≡ 0x00) ⊎ (get_or s 0 0 ≡ 0xFF) → vpd_head s ≡ Ends
+  ends : (get_or s 0 0 ≡ 0x00) ⊎ (get_or s 0 0 ≡ 0xFF) → vpd_head s ≡ Ok None
   unfolding vpd_head
   ends (inl e) = rw (lt-ltb 0, e)
   ends (inr e) = rw (lt-ltb 0, e)

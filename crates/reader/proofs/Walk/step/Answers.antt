@@ -1,28 +1,36 @@
 -- `reader::Walk::step` meets its contract: a step answers as entry n, and n of an entry that is found is small.
 -- Assumes nothing.
-use mathlib.Core.Path.{◌≡◌, sym, ◌∙◌}
+use Prim.Native.Nat.{ℕ, ◌+◌}
+use mathlib.Core.Path.{◌≡◌, refl, ap, sym, ◌∙◌}
+use mathlib.Core.Bool.{true, false}
 use native.Mathlib.Omega.{arith}
-use Rattle.layout.specs.declared.Lookup.TheVariants.{Found, Missing}
-use Rattle.layout.specs.Calls.{entry_at, step_from}
+use Rattle.std.specs.Prelude.{Ok, Err}
+use Rattle.std.specs.Result.{is_ok}
+use Rattle.layout.specs.Answers.{Lookup}
+use Rattle.layout.specs.Calls.{moved, step_from}
 use Rattle.reader.proofs.Rooms.{found_below}
 use Rattle.reader.proofs.Walk.step.Goals as goal
 
+moves : (n : ℕ) (x : Lookup) → is_ok x ≡ true → moved n x ≡ n + 1
+moves n (Ok e) q = refl
+moves n (Err r) q = cc
+
+stays : (n : ℕ) (x : Lookup) → is_ok x ≡ false → moved n x ≡ n
+stays n (Ok e) q = cc
+stays n (Err r) q = refl
+
 pub overflow_add-next : goal.overflow_add-next
 overflow_add-next c = let a = c.args in
-    let x = c.in-Found.e in
-    let q : entry_at a.self.format a.self.edition a.image.now a.self.entry ≡ Found x = sym c.entry_at-x.ensures ∙ c.in-Found.is in
-    omega (arith, found_below a.self.format a.self.edition a.image.now a.self.entry x q)
+    let w = a.self in
+    let ok = ap (λ (x : Lookup). is_ok x) (sym c.entry_at-answer.ensures) ∙ sym c.is_ok.ensures.value ∙ c.if-is_ok.true in
+    omega (arith, found_below w.format w.edition a.image.now w.entry ok)
 
-pub returns-in-Found : goal.returns-in-Found
+pub returns-then-is_ok : goal.returns-then-is_ok
 unfolding step_from
-returns-in-Found c = let a = c.args in
-    let x = c.in-Found.e in
-    let q : entry_at a.self.format a.self.edition a.image.now a.self.entry ≡ Found x = sym c.entry_at-x.ensures ∙ c.in-Found.is in
-    rw q
+returns-then-is_ok c =
+    rw (← c.entry_at-answer.ensures, moves c.args.self.entry c.entry_at-answer.result (sym c.is_ok.ensures.value ∙ c.if-is_ok.true))
 
-pub returns-in-Missing : goal.returns-in-Missing
+pub returns-else-is_ok : goal.returns-else-is_ok
 unfolding step_from
-returns-in-Missing c = let a = c.args in
-    let x = c.in-Missing.r in
-    let q : entry_at a.self.format a.self.edition a.image.now a.self.entry ≡ Missing x = sym c.entry_at-x.ensures ∙ c.in-Missing.is in
-    rw q
+returns-else-is_ok c =
+    rw (← c.entry_at-answer.ensures, stays c.args.self.entry c.entry_at-answer.result (sym c.is_ok.ensures.value ∙ c.if-is_ok.false))
