@@ -322,6 +322,12 @@ exported_calls() {
     [ "$(grep -c '^uint64_t boardid_' "include/edition-$1/boardid.h")" -eq "${#names[@]}" ]
 }
 
+# needed_names: what the library needs from outside is what docs/C-INTERFACE.md names, memcpy and memset, so that a program without a C library can give it.
+needed_names() {
+    nm -u "$lib" >"$room/nm" 2>"$room/nm.errors" || return 1
+    ! sed -n 's/^ *U //p' "$room/nm" | grep -vxE 'memcpy|memset'
+}
+
 # Runs make with these words, and nothing of an outer make's.
 make_here() {
     env -u MAKEFLAGS -u MAKEOVERRIDES -u DESTDIR -u PREFIX -u INCLUDEDIR -u LIBDIR -u DOCDIR -u LIB make -s "$@"
@@ -532,6 +538,7 @@ for edition in "${editions[@]}"; do
     [ "$edition" = "$newest" ] || try "edition $((edition + 1)) has every name of edition $edition" later_has_all_names "$edition"
     try "edition $edition: the exported calls" exported_calls "$edition"
 done
+try 'the library needs memcpy and memset from outside, and nothing else' needed_names
 if command -v pkg-config >"$room/output"; then
     try 'make install, pkg-config' installed
 else

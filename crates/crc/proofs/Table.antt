@@ -22,6 +22,10 @@ made f n k h = made-from f n 0 k 0 h ∙ ap f (zero-add k)
 abbrev pub Made : (ℕ → ℕ) → List ℕ → Type 0
 Made f t = t ≡ rows f 256 0
 
--- A table's rule, carried to each index.
-pub made_at : (f : ℕ → ℕ) (t : List ℕ) → Made f t → (k : ℕ) → k < 256 → get_or t k (f k) ≡ f k
-made_at f t is k lt = ap (λ (l : List ℕ). get_or l k (f k)) is ∙ made-from f 256 0 k (f k) lt ∙ ap f (zero-add k)
+-- A table's rule, carried to each index, whatever counts for an entry that is not there.
+pub made_at : (f : ℕ → ℕ) (t : List ℕ) (k d : ℕ) → k < 256 → Made f t → get_or t k d ≡ f k
+made_at f t k d lt is = ap (λ (l : List ℕ). get_or l k d) is ∙ made-from f 256 0 k d lt ∙ ap f (zero-add k)
+
+-- The same of all entries, as `entry` asks for it.
+pub each_made : (f : ℕ → ℕ) (t : List ℕ) → Made f t → (k : ℕ) → k < 256 → get_or t k (f k) ≡ f k
+each_made f t is k lt = made_at f t k (f k) lt is

@@ -153,6 +153,6 @@ pub fn onie_sealed(image: &[u8], p: usize) -> bool
     if image.len() < p {
         return false;
     }
-    let check = crc::check32_closed(&image[..p], 0xFE, 0x04).to_be_bytes();
+    let check = parts::four_bytes(crc::check32_closed(&image[..p], 0xFE, 0x04));
     parts::is_stored(image, p + 2, &check)
 }

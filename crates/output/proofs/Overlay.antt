@@ -1,13 +1,14 @@
--- Bytes written over others: what two writes side by side come to, and that no write changes a length.
+-- Bytes written over others: what two writes side by side come to, a loop that writes byte by byte, and that no write changes a length.
 -- Assumes nothing.
 use Prim.Native.Nat.{ℕ, ◌+◌, ◌-◌, ◌≤◌, ◌<◌}
 use mathlib.Core.Path.{◌≡◌, refl, ap, sym, ◌∙◌}
-use mathlib.Core.List.{List, [], ◌++◌, append_assoc, append-nil}
+use mathlib.Core.List.{List, [], ◌∷◌, ◌++◌, append_assoc, append-nil}
 use native.Mathlib.Nat.{add-zero, zero-add}
+use native.Mathlib.Numerals.{add-one}
 use native.Mathlib.Omega.{arith}
 use borrow.Author.Tests.{le-leb, lt-leb, leb-true}
-use lib.ListN.{length, take, drop, replicate, length-append, length-drop, length-take, length-replicate, take-append-drop, drop_of_length-le}
-use lib.Seq.{drop-append-add, drop-drop, take_at, length-take-le}
+use lib.ListN.{length, get_or, set, take, drop, replicate, length-append, length-drop, length-take, length-replicate, take-append-drop, drop_of_length-le}
+use lib.Seq.{drop-append-add, drop-drop, take_at, take_all, take-suc, set_split, length-take-le}
 use lib.Dec.{leb}
 use borrow.Rule.Slice.PartMut.{put_mid}
 use Rattle.layout.specs.Bytes.{part}
@@ -95,3 +96,25 @@ copied-padded d a s {d₁ = d₁} p q le =
 pub put-copied : {k : ℕ} {t : List ℕ} (d : List ℕ) (a : ℕ) (s : List ℕ) → t ≡ s → k ≡ length s → a + length s ≤ length d → put_mid a k d t ≡ copied d a s
 unfolding over
 put-copied d a s is e le = rw (is, e, drop-drop (length s) a d, copied-over d a s le)
+
+-- ---- a loop
+
+-- The bytes of s are written over d from place a on, one in each turn: the first i are written.
+abbrev pub Copying : (d : List ℕ) (a : ℕ) (s out : List ℕ) (i : ℕ) → Type 0
+Copying d a s out i = (i ≤ length s) × (out ≡ over d a (take i s))
+
+module _ (d : List ℕ) (a : ℕ) (s out : List ℕ) (i : ℕ) (le : a + length s ≤ length d) (inv : Copying d a s out i) where
+  pub copying-length : length out ≡ length d
+  copying-length = ap length inv.1 ∙ length_over d a (take i s) (omega (arith, length-take-le i s inv.0))
+
+  pub copies : (b : ℕ) → get_or s i 0 ≡ b → i < length s → Copying d a s (set out (a + i) b) (i + 1)
+  unfolding over
+  copies b is lt =
+      let at : a + i ≡ a + length (take i s) = omega (arith, length-take-le i s inv.0) in (
+        omega arith,
+        rw (add-one, take-suc s i 0, is, ← over-over d a (take i s) (b ∷ []) (a + i) (omega arith) at, ← inv.1, set_split out (a + i) b (omega (arith, copying-length)))
+            (rw add-one),
+      )
+
+  pub copied_all : length s ≤ i → out ≡ copied d a s
+  copied_all ge = inv.1 ∙ (rw (take_all i s ge, copied-over d a s le))

@@ -8,10 +8,9 @@ use native.Mathlib.Nat.{zero-add, add_comm}
 use native.Mathlib.Omega.{arith}
 use lib.ListN.{length, take, drop, length-drop}
 use lib.Seq.{take-append-add, length-take-le}
-use Rattle.std.specs.Int.{w16, w32, to_be_bytes}
+use Rattle.std.specs.Int.{w16, to_be_bytes}
 use Rattle.layout.specs.Bytes.{part}
 use Rattle.layout.specs.Shape.{Shape}
-use Rattle.layout.specs.Onie.{four_bytes}
 use Rattle.layout.specs.Write.{image_of, padded}
 use Rattle.output.specs.Lengths.{fits_in}
 use Rattle.output.specs.Placing.{over, copied, finished}
@@ -21,12 +20,9 @@ pub length_part : (a n : ℕ) (d : List ℕ) → n + a ≤ length d → length (
 unfolding part
 length_part a n d le = length-take-le n (drop a d) (omega (arith, length-drop a d))
 
--- The bytes of a number of 16 and of 32 bits, high byte first.
+-- The bytes of a number of 16 bits, high byte first.
 pub two-high : {n : ℕ} → n < 65536 → to_be_bytes w16 n ≡ n / 256 ∷ (n % 256) ∷ []
 two-high {n} lt = ap (λ (x : ℕ). x ∷ (n % 256) ∷ []) (omega arith)
-
-pub four-high : {n : ℕ} → n < 4294967296 → to_be_bytes w32 n ≡ four_bytes n
-four-high {n} lt = ap (λ (x : ℕ). x ∷ (n / 65536 % 256) ∷ (n / 256 % 256) ∷ (n % 256) ∷ []) (omega arith)
 
 -- After the header was written, it stands before the entries.
 body-stands : (d h : List ℕ) (n : ℕ) → n + length h ≤ length d → take (n + length h) (copied d 0 h) ≡ h ++ part (length h) n d

@@ -133,7 +133,9 @@ pub fn copy_at(out: &mut [u8], at: usize, s: &[u8])
     ensures { out.new ≡ copied out.old at s.now }
 {
     if at <= out.len() && s.len() <= out.len() - at {
-        out[at..at + s.len()].copy_from_slice(s);
+        for i in 0..s.len() {
+            out[at + i] = s[i];
+        }
     }
 }
 
@@ -278,7 +280,7 @@ fn finish_onie(out: &mut [u8], n: usize)
     let [high, low] = (total as u16).to_be_bytes();
     copy_at(out, 8, &[0x01, high, low]);
     let at = n + 11;
-    let [a, b, c, d] = crc::check32_closed(&out[..at], 0xFE, 0x04).to_be_bytes();
+    let [a, b, c, d] = parts::four_bytes(crc::check32_closed(&out[..at], 0xFE, 0x04));
     put_end(out, at, &[0xFE, 0x04, a, b, c, d]);
 }
 

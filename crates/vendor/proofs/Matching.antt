@@ -18,7 +18,6 @@ use Rattle.std.proofs.Common.{inl, inr}
 use lib.Seq.{take_all}
 use Rattle.std.specs.Int.{w32, to_be_bytes}
 use Rattle.layout.specs.Bytes.{if, same_bytes, part}
-use Rattle.layout.specs.Onie.{four_bytes}
 use Rattle.layout.specs.Walk.{Content}
 use Rattle.blocks.specs.Payload.{prefix, matches}
 use Rattle.vendor.specs.Pieces.{piece_in}
@@ -34,10 +33,6 @@ same_listed (a ∷ x) (b ∷ y) = go (eqb a b) (same_listed x y)
     go : (t : Bool) {p q : Bool} → p ≡ q → (t && p) ≡ if t (λ _. q) (λ _. false)
     go true e = e
     go false e = refl
-
--- The bytes of a number of 32 bits, high byte first.
-pub four-high : {n : ℕ} → n < 4294967296 → to_be_bytes w32 n ≡ four_bytes n
-four-high {n} lt = ap (λ (x : ℕ). x ∷ (n / 65536 % 256) ∷ (n / 256 % 256) ∷ (n % 256) ∷ []) (omega arith)
 
 -- An entry of another code has no piece.
 pub other-code : (c : Content) → (c.code ≡ 0xFD → ⊥) → None ≡ piece_in c

@@ -55,7 +55,7 @@ fn is_checked(payload: &[u8]) -> bool
     ensures { result ≡ checked payload.now }
 {
     match payload.split_last_chunk::<4>() {
-        Some((said, check)) => *check == crc::check32(said).to_be_bytes(),
+        Some((said, check)) => *check == parts::four_bytes(crc::check32(said)),
         None => false,
     }
 }
@@ -227,7 +227,7 @@ fn put_payload(own: &mut [u8], serial: &[u8], offsets: Offsets)
 {
     put_front(own, serial, offsets);
     let n = 12 + serial.len();
-    let check = crc::check32(&own[..n]).to_be_bytes();
+    let check = parts::four_bytes(crc::check32(&own[..n]));
     output::copy_at(own, n, &check);
 }
 

@@ -1,7 +1,5 @@
 -- `onie::onie_sealed` meets its contract: it compares the stored check with that over the bytes before the end of the entries and FE 04.
 -- Assumes nothing.
-use Prim.Native.Nat.{◌/◌, ◌%◌}
-use mathlib.Core.Path.{◌≡◌}
 use native.Mathlib.Omega.{arith}
 use Rattle.layout.specs.Onie.{onie, onie_check}
 use Rattle.layout.specs.Read.{sealed}
@@ -14,7 +12,4 @@ returns-then-image-p c = unsealed onie _ _ (omega arith) (omega arith)
 
 pub returns : goal.returns
 unfolding sealed onie onie_check
-returns c =
-    let n = c.check32_closed.result in
-    let high : n / 16777216 % 256 ≡ n / 16777216 = omega arith in
-    rw (c.is_stored.ensures, c.to_be_bytes-check.ensures, high, c.check32_closed.ensures)
+returns c = rw (c.is_stored.ensures, c.four_bytes-check.ensures, c.check32_closed.ensures)

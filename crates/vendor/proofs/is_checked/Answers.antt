@@ -10,7 +10,7 @@ use Rattle.layout.specs.Bytes.{part}
 use Rattle.layout.specs.Onie.{four_bytes}
 use Rattle.blocks.specs.Payload.{checked}
 use Rattle.parts.proofs.Seal.{cut_short}
-use Rattle.vendor.proofs.Matching.{same_listed, four-high}
+use Rattle.vendor.proofs.Matching.{same_listed}
 use Rattle.vendor.proofs.is_checked.Goals as goal
 
 pub returns-in-Some : goal.returns-in-Some
@@ -18,7 +18,7 @@ unfolding checked part
 returns-in-Some c = let s = c.args.payload.now in
     let w = c.in-Some.ensures.cases in
     let last : c.in-Some.check.now ≡ take 4 (drop (length s - 4) s) = w.1 ∙ sym (take_all 4 (drop (length s - 4) s) (omega (arith, length-drop (length s - 4) s))) in
-    c.eq.ensures ∙ same_listed c.in-Some.check.now c.to_be_bytes.result ∙ rw (last, c.to_be_bytes.ensures, four-high c.check32.type_inv, c.check32.ensures, w.0)
+    c.eq.ensures ∙ same_listed c.in-Some.check.now c.four_bytes.result ∙ rw (last, c.four_bytes.ensures, c.check32.ensures, w.0)
 
 pub returns-in-None : goal.returns-in-None
 unfolding checked

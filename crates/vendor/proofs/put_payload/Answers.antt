@@ -11,7 +11,6 @@ use Rattle.output.specs.Placing.{copied}
 use Rattle.output.proofs.Overlay.{length-copied, copied-then}
 use Rattle.blocks.specs.Payload.{front, payload_of}
 use Rattle.blocks.proofs.Lengths.{length_front}
-use Rattle.vendor.proofs.Matching.{four-high}
 use Rattle.vendor.proofs.Making.{front-there}
 use Rattle.vendor.proofs.put_payload.Goals as goal
 
@@ -25,4 +24,4 @@ returns c = let d = c.args.own.now in
     let o = c.args.offsets in
     let f = front s o in
     let check : c.check32.result ≡ check32_of f = c.check32.ensures ∙ ap check32_of (ap (take (12 + length s)) c.put_front.ensures ∙ front-there d s o (omega (arith, c.requires.1))) in
-    copied-then d 0 f (four_bytes (check32_of f)) c.put_front.ensures (c.copy_at.ensures ∙ ap (copied c.put_front.new.own (12 + length s)) (c.to_be_bytes-check.ensures ∙ four-high c.check32.type_inv ∙ ap four_bytes check)) (omega (arith, c.requires.1, length_front s o, length-append f (four_bytes (check32_of f)))) (omega (arith, length_front s o))
+    copied-then d 0 f (four_bytes (check32_of f)) c.put_front.ensures (c.copy_at.ensures ∙ ap (copied c.put_front.new.own (12 + length s)) (c.four_bytes-check.ensures ∙ ap four_bytes check)) (omega (arith, c.requires.1, length_front s o, length-append f (four_bytes (check32_of f)))) (omega (arith, length_front s o))
