@@ -1,7 +1,7 @@
 -- The piece of an entry, where it matches, and what std compares.
 -- Assumes nothing.
-use Prim.Native.Nat.{ℕ, ◌+◌, ◌-◌, ◌/◌, ◌%◌, ◌<◌}
-use mathlib.Core.Path.{◌≡◌, refl, ap, sym, ◌∙◌}
+use Prim.Native.Nat.{ℕ, ◌+◌, ◌-◌}
+use mathlib.Core.Path.{◌≡◌, refl, sym, ◌∙◌}
 use mathlib.Core.List.{List, [], ◌∷◌}
 use mathlib.Core.Bool.{Bool, true, false, ◌&&◌}
 use native.Mathlib.Omega.{arith}
@@ -16,7 +16,6 @@ use Rattle.std.specs.Option.{option_copied, unwrap_or}
 use Rattle.std.specs.Slice.{IsGetRangeResult}
 use Rattle.std.proofs.Common.{inl, inr}
 use lib.Seq.{take_all}
-use Rattle.std.specs.Int.{w32, to_be_bytes}
 use Rattle.layout.specs.Bytes.{if, same_bytes, part}
 use Rattle.layout.specs.Walk.{Content}
 use Rattle.blocks.specs.Payload.{prefix, matches}
